@@ -1,0 +1,100 @@
+-- Damage, word by word: a word that the call uses is outside its range.
+use Prim.Native.Nat.{ℕ, _+_, _*_}
+use mathlib.Core.Bool.{Bool, true, false, cond, not, _||_, _&&_}
+use mathlib.Core.List.{List, [], _∷_}
+use lib.Dec.{ltb, leb, eqb}
+use lib.ListN.{length}
+use Rattle.definitions.specs.declared.PhaseRow.{PhaseRow}
+use Rattle.definitions.specs.Cells.{Cells, workers, items-limit, nodes-limit, projects, counter-limit, counter, items, used, given-back, phase, steps, item, old, new, handle, project, noted, node, new-node, seen, sum-low, sum-high, head, birth, value, older, stamp, needed, cells-of}
+use Rattle.definitions.specs.Phases.{row-of, take-snapshot-operation, read-snapshot-operation, total-operation}
+
+-- The stamp of a node that is still to be decided.
+abbrev pub TBD : ℕ
+TBD = 4294967295
+
+-- One of the tests holds.
+abbrev pub any-from : Bool → List Bool → Bool
+any-from a [] = a
+any-from a (t ∷ ts) = any-from (a || t) ts
+abbrev pub any-of : List Bool → Bool
+any-of [] = false
+any-of (t ∷ ts) = any-from t ts
+
+abbrev pub outside : ℕ → ℕ → ℕ → Bool
+outside low high x = ltb x low || ltb high x
+
+-- Document 01's ranges of P, M, N, Q and C.
+abbrev pub sizes-outside : (p m n q c : ℕ) → List Bool
+sizes-outside p m n q c = outside 1 64 p ∷ outside 1 256 m ∷ outside 1 4096 n ∷ outside 1 256 q ∷ outside 1 4294967294 c ∷ []
+
+-- The header of lent words that are so many: sizes and limits, what stands within them, and fewer lent words than are needed.
+unfoldable pub header-damaged-at : (count p m n q c now held taken back : ℕ) → Bool
+header-damaged-at count p m n q c now held taken back =
+    any-of (any-of (sizes-outside p m n q c) ∷ ltb c now ∷ ltb m held ∷ ltb n taken ∷ ltb taken back ∷ ltb count (needed p m n) ∷ [])
+
+abbrev pub header-damaged : List ℕ → Bool
+header-damaged ws =
+    let m = cells-of ws in
+    header-damaged-at (length ws) (m workers) (m items-limit) (m nodes-limit) (m projects) (m counter-limit) (m counter) (m items) (m used) (m given-back)
+
+-- A value, a node number, a counter value and a handle that are out of range.
+abbrev pub bad-value : Cells → ℕ → Bool
+bad-value m v = leb (m projects) v
+abbrev pub bad-node : Cells → ℕ → Bool
+bad-node m n = leb (m used) n
+abbrev pub bad-time : Cells → ℕ → Bool
+bad-time m t = ltb (m counter) t
+abbrev pub bad-handle : Cells → ℕ → Bool
+bad-handle m h = leb (m counter) h
+
+-- Which words of its record a phase uses: the arguments of its operation, always, and what its lines keep, where it is still read.
+-- A total uses its item at each phase but the closing one, and a takeSnapshot has none.
+abbrev pub uses-item : PhaseRow → Bool
+uses-item r = not (eqb (r .operation) take-snapshot-operation) && not (eqb (r .line) 0)
+abbrev pub uses-values : PhaseRow → Bool
+uses-values r = eqb (r .operation) 2
+abbrev pub uses-handle : PhaseRow → Bool
+uses-handle r = leb read-snapshot-operation (r .operation)
+abbrev pub is-total : PhaseRow → Bool
+is-total r = eqb (r .operation) total-operation
+-- from the line that fetched it to 39, 43, 46 and 34
+abbrev pub uses-node : PhaseRow → Bool
+uses-node r =
+    any-of (eqb (r .line) 20 ∷ eqb (r .line) 21 ∷ eqb (r .line) 22 ∷ eqb (r .line) 34 ∷ eqb (r .line) 39 ∷ eqb (r .line) 43 ∷ eqb (r .line) 45 ∷ eqb (r .line) 46 ∷ [])
+abbrev pub uses-new-node : PhaseRow → Bool
+uses-new-node r = eqb (r .line) 46 || eqb (r .line) 50
+
+abbrev pub sum : Cells → ℕ → ℕ
+sum m w = m (sum-high w) * 4294967296 + m (sum-low w)
+
+-- A running record, at the table's entry for its phase.
+unfoldable pub running-damaged : PhaseRow → Cells → ℕ → Bool
+running-damaged r m w =
+    any-of (ltb 5120 (m (steps w))
+    ∷ (uses-item r && leb (m items) (m (item w)))
+    ∷ (uses-values r && (bad-value m (m (old w)) || bad-value m (m (new w))))
+    ∷ (uses-handle r && bad-handle m (m (handle w)))
+    ∷ (is-total r && any-of (bad-value m (m (project w)) ∷ ltb (m items) (m (noted w)) ∷ ltb (m (noted w)) (m (item w)) ∷ ltb 1099511627776 (sum m w) ∷ (uses-item r && leb (m (noted w)) (m (item w))) ∷ []))
+    ∷ (uses-node r && bad-node m (m (node w)))
+    ∷ (uses-new-node r && bad-node m (m (new-node w)))
+    ∷ (eqb (r .line) 22 && bad-time m (m (seen w)))
+    ∷ (eqb (r .line) 6 && leb (m counter-limit) (m (seen w)))
+    ∷ [])
+
+-- A worker's record: a phase that is known, and nothing else where it is idle.
+abbrev pub worker-damaged : Cells → ℕ → Bool
+worker-damaged m w = ltb 35 (m (phase w)) || (not (eqb (m (phase w)) 0) && running-damaged (row-of (m (phase w))) m w)
+
+-- An item's record. A birth stamp is a counter value and never TBD.
+abbrev pub item-damaged : Cells → ℕ → Bool
+item-damaged m i = bad-node m (m (head i)) || bad-time m (m (birth i))
+
+-- A node's words. The older node is a number plus one, or 0.
+abbrev pub value-damaged : Cells → ℕ → Bool
+value-damaged m n = bad-value m (m (value n))
+abbrev pub older-damaged : Cells → ℕ → Bool
+older-damaged m n = ltb (m used) (m (older n))
+abbrev pub stamp-damaged : Cells → ℕ → Bool
+stamp-damaged m n = bad-time m (m (stamp n)) && not (eqb (m (stamp n)) TBD)
+abbrev pub node-damaged : Cells → ℕ → Bool
+node-damaged m n = (value-damaged m n || older-damaged m n) || stamp-damaged m n
