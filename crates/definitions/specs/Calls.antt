@@ -9,7 +9,7 @@ use Rattle.definitions.specs.declared.PhaseRow.{PhaseRow}
 use Rattle.definitions.specs.Cells.{Cells, Assignment, _≔_, workers, items-limit, projects, counter, items, phase, item, value, older, stamp, head, birth, size, needed, items-at, nodes-at, cells-of, written, record-of}
 use Rattle.definitions.specs.Answers.{Outcome, Refusal, _⇒_, refusal, accepted, refused, unless, accepts}
 use Rattle.definitions.specs.Phases.{row-of, v-read-start, v-cas-start, take-snapshot-start, read-snapshot-start, total-start, closing-phase}
-use Rattle.definitions.specs.Damage.{any-of, sizes-outside, header-damaged, worker-damaged, uses-item, item-damaged, node-damaged, bad-value, bad-handle}
+use Rattle.definitions.specs.Damage.{any-of, sizes-outside, header-damaged, worker-damaged, inside-item, item-damaged, node-damaged, bad-value, bad-handle, bad-item}
 use Rattle.definitions.specs.Lines.{Line, no-node, node-to-take, taking, line-of-phase}
 
 pub data Call : Type 0 where
@@ -27,14 +27,12 @@ abbrev pub no-worker : Cells → ℕ → Bool
 no-worker m w = leb (m workers) w
 abbrev pub busy : Cells → ℕ → Bool
 busy m w = not (eqb (m (phase w)) 0)
-abbrev pub not-registered : Cells → ℕ → Bool
-not-registered m i = leb (m items) i
 
 abbrev pub free-worker : Cells → ℕ → List Refusal
 free-worker m w = no-worker m w ⇒ 3 ∷ worker-damaged m w ⇒ 2 ∷ busy m w ⇒ 4 ∷ []
 
 abbrev pub sound-item : Cells → ℕ → List Refusal
-sound-item m i = not-registered m i ⇒ 6 ∷ item-damaged m i ⇒ 2 ∷ []
+sound-item m i = bad-item m i ⇒ 6 ∷ item-damaged m i ⇒ 2 ∷ []
 
 -- Register takes a node, stamps it with the present counter, and gives the next item's number.
 unfoldable pub registering : Cells → ℕ → ℕ → Outcome
@@ -71,7 +69,7 @@ unfoldable pub stepping : Cells → ℕ → Outcome
 stepping m w =
     let l = line-of-phase (m (phase w)) in
     unless (no-worker m w ⇒ 3 ∷ worker-damaged m w ⇒ 2 ∷ eqb (m (phase w)) 0 ⇒ 5
-    ∷ (uses-item (row-of (m (phase w))) && item-damaged m (m (item w))) ⇒ 2 ∷ l .damaged m w ⇒ 2 ∷ [])
+    ∷ (inside-item (row-of (m (phase w))) && item-damaged m (m (item w))) ⇒ 2 ∷ l .damaged m w ⇒ 2 ∷ [])
     (l .does m w)
 
 -- The answer of a call and the words after it.

@@ -6,7 +6,7 @@ use lib.Dec.{ltb, leb, eqb}
 use lib.ListN.{length}
 use Rattle.definitions.specs.declared.PhaseRow.{PhaseRow}
 use Rattle.definitions.specs.Cells.{Cells, workers, items-limit, nodes-limit, projects, counter-limit, counter, items, used, given-back, phase, steps, item, old, new, handle, project, noted, node, new-node, seen, sum-low, sum-high, head, birth, value, older, stamp, needed, cells-of}
-use Rattle.definitions.specs.Phases.{row-of, take-snapshot-operation, read-snapshot-operation, total-operation}
+use Rattle.definitions.specs.Phases.{row-of, v-read-operation, v-cas-operation, take-snapshot-operation, read-snapshot-operation}
 
 -- The stamp of a node that is still to be decided.
 abbrev pub TBD : ℕ
@@ -28,9 +28,12 @@ abbrev pub sizes-outside : (p m n q c : ℕ) → List Bool
 sizes-outside p m n q c = outside 1 64 p ∷ outside 1 256 m ∷ outside 1 4096 n ∷ outside 1 256 q ∷ outside 1 4294967294 c ∷ []
 
 -- The header of lent words that are so many: sizes and limits, what stands within them, and fewer lent words than are needed.
+abbrev pub header-tests : (count p m n q c now held taken back : ℕ) → List Bool
+header-tests count p m n q c now held taken back =
+    any-of (sizes-outside p m n q c) ∷ ltb c now ∷ ltb m held ∷ ltb n taken ∷ ltb taken back ∷ ltb count (needed p m n) ∷ []
+
 unfoldable pub header-damaged-at : (count p m n q c now held taken back : ℕ) → Bool
-header-damaged-at count p m n q c now held taken back =
-    any-of (any-of (sizes-outside p m n q c) ∷ ltb c now ∷ ltb m held ∷ ltb n taken ∷ ltb taken back ∷ ltb count (needed p m n) ∷ [])
+header-damaged-at count p m n q c now held taken back = any-of (header-tests count p m n q c now held taken back)
 
 abbrev pub header-damaged : List ℕ → Bool
 header-damaged ws =
@@ -47,39 +50,50 @@ bad-time m t = ltb (m counter) t
 abbrev pub bad-handle : Cells → ℕ → Bool
 bad-handle m h = leb (m counter) h
 
--- Which words of its record a phase uses: the arguments of its operation, always, and what its lines keep, where it is still read.
--- A total uses its item at each phase but the closing one, and a takeSnapshot has none.
-abbrev pub uses-item : PhaseRow → Bool
-uses-item r = not (eqb (r .operation) take-snapshot-operation) && not (eqb (r .line) 0)
-abbrev pub uses-values : PhaseRow → Bool
-uses-values r = eqb (r .operation) 2
-abbrev pub uses-handle : PhaseRow → Bool
-uses-handle r = leb read-snapshot-operation (r .operation)
-abbrev pub is-total : PhaseRow → Bool
-is-total r = eqb (r .operation) total-operation
--- from the line that fetched it to 39, 43, 46 and 34
-abbrev pub uses-node : PhaseRow → Bool
-uses-node r =
-    any-of (eqb (r .line) 20 ∷ eqb (r .line) 21 ∷ eqb (r .line) 22 ∷ eqb (r .line) 34 ∷ eqb (r .line) 39 ∷ eqb (r .line) 43 ∷ eqb (r .line) 45 ∷ eqb (r .line) 46 ∷ [])
-abbrev pub uses-new-node : PhaseRow → Bool
-uses-new-node r = eqb (r .line) 46 || eqb (r .line) 50
+abbrev pub bad-item : Cells → ℕ → Bool
+bad-item m i = leb (m items) i
+
+-- An operation is inside an item at each phase but a takeSnapshot's and a total's closing one.
+abbrev pub inside-item : PhaseRow → Bool
+inside-item r = not (eqb (r .operation) take-snapshot-operation) && not (eqb (r .line) 0)
 
 abbrev pub sum : Cells → ℕ → ℕ
 sum m w = m (sum-high w) * 4294967296 + m (sum-low w)
 
--- A running record, at the table's entry for its phase.
+-- A total's arguments: its project and handle, the number of items noted, its place, and the running sum.
+abbrev pub total-tests : PhaseRow → Cells → ℕ → List Bool
+total-tests r m w =
+    bad-value m (m (project w)) ∷ bad-handle m (m (handle w)) ∷ ltb (m items) (m (noted w)) ∷ ltb (m (noted w)) (m (item w))
+    ∷ (inside-item r && leb (m (noted w)) (m (item w))) ∷ ltb 1099511627776 (sum m w) ∷ []
+
+-- The arguments of its operation, which a running record uses at each of its phases.
+unfoldable pub arguments-damaged : PhaseRow → Cells → ℕ → Bool
+arguments-damaged r m w =
+    cond (eqb (r .operation) v-read-operation) (bad-item m (m (item w)))
+    (cond (eqb (r .operation) v-cas-operation) (any-of (bad-item m (m (item w)) ∷ bad-value m (m (old w)) ∷ bad-value m (m (new w)) ∷ []))
+    (cond (eqb (r .operation) take-snapshot-operation) false
+    (cond (eqb (r .operation) read-snapshot-operation) (any-of (bad-item m (m (item w)) ∷ bad-handle m (m (handle w)) ∷ []))
+    (any-of (total-tests r m w)))))
+
+-- What its lines keep, where it is still read: the node from the line that fetched it to 39, 43, 46 and 34, the new node at 46 and 50,
+-- the number read at 21 when 22 runs, and the number read at 5 when 6 runs.
+abbrev pub keeps-node : PhaseRow → Bool
+keeps-node r =
+    any-of (eqb (r .line) 20 ∷ eqb (r .line) 21 ∷ eqb (r .line) 22 ∷ eqb (r .line) 34 ∷ eqb (r .line) 39 ∷ eqb (r .line) 43 ∷ eqb (r .line) 45 ∷ eqb (r .line) 46 ∷ [])
+abbrev pub keeps-new-node : PhaseRow → Bool
+keeps-new-node r = eqb (r .line) 46 || eqb (r .line) 50
+
+abbrev pub kept-tests : PhaseRow → Cells → ℕ → List Bool
+kept-tests r m w =
+    (keeps-node r && bad-node m (m (node w))) ∷ (keeps-new-node r && bad-node m (m (new-node w)))
+    ∷ (eqb (r .line) 22 && bad-time m (m (seen w))) ∷ (eqb (r .line) 6 && leb (m counter-limit) (m (seen w))) ∷ []
+
+unfoldable pub kept-damaged : PhaseRow → Cells → ℕ → Bool
+kept-damaged r m w = any-of (kept-tests r m w)
+
+-- A running record, at the table's entry for its phase; the step count, too, is below 5,121.
 unfoldable pub running-damaged : PhaseRow → Cells → ℕ → Bool
-running-damaged r m w =
-    any-of (ltb 5120 (m (steps w))
-    ∷ (uses-item r && leb (m items) (m (item w)))
-    ∷ (uses-values r && (bad-value m (m (old w)) || bad-value m (m (new w))))
-    ∷ (uses-handle r && bad-handle m (m (handle w)))
-    ∷ (is-total r && any-of (bad-value m (m (project w)) ∷ ltb (m items) (m (noted w)) ∷ ltb (m (noted w)) (m (item w)) ∷ ltb 1099511627776 (sum m w) ∷ (uses-item r && leb (m (noted w)) (m (item w))) ∷ []))
-    ∷ (uses-node r && bad-node m (m (node w)))
-    ∷ (uses-new-node r && bad-node m (m (new-node w)))
-    ∷ (eqb (r .line) 22 && bad-time m (m (seen w)))
-    ∷ (eqb (r .line) 6 && leb (m counter-limit) (m (seen w)))
-    ∷ [])
+running-damaged r m w = any-of (ltb 5120 (m (steps w)) ∷ arguments-damaged r m w ∷ kept-damaged r m w ∷ [])
 
 -- A worker's record: a phase that is known, and nothing else where it is idle.
 abbrev pub worker-damaged : Cells → ℕ → Bool

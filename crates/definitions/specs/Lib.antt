@@ -4,3 +4,4 @@ pub mod Phases
 pub mod Damage
 pub mod Lines
 pub mod Calls
+pub mod Promises

@@ -5,7 +5,11 @@ use mathlib.Core.List.{List, [], _∷_}
 use lib.ListN.{getD}
 use Rattle.definitions.specs.declared.PhaseRow.{PhaseRow}
 
--- The operations: 0 none, 1 vRead, 2 vCAS, 3 takeSnapshot, 4 readSnapshot, 5 total.
+-- The operations; 0 is none.
+abbrev pub v-read-operation : ℕ
+v-read-operation = 1
+abbrev pub v-cas-operation : ℕ
+v-cas-operation = 2
 abbrev pub take-snapshot-operation : ℕ
 take-snapshot-operation = 3
 abbrev pub read-snapshot-operation : ℕ

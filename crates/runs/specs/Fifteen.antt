@@ -9,7 +9,7 @@ use Rattle.definitions.specs.declared.Answer.{Answer}
 use Rattle.definitions.specs.Cells.{Cell, Assignment, _≔_, counter, used, head, needed, cells-of}
 use Rattle.definitions.specs.Answers.{finished, running, accepted, refusal}
 use Rattle.definitions.specs.Phases.{table, row-of}
-use Rattle.definitions.specs.Damage.{header-damaged-at, running-damaged}
+use Rattle.definitions.specs.Damage.{header-damaged-at, running-damaged, arguments-damaged, kept-damaged}
 use Rattle.definitions.specs.Lines.{fetch-head, line-20, line-21, line-22, line-39, line-43, line-45, line-46, line-48, line-50, line-52, line-5, line-6, line-34, total-32, total-34, closing, lines, line-of-phase}
 use Rattle.definitions.specs.Calls.{Call, Result, making, registering, starting-v-read, starting-v-cas, starting-take-snapshot, starting-read-snapshot, starting-total, stepping, outcome}
 use Rattle.definitions.specs.Calls.Call.{make, register, v-read, v-cas, take-snapshot, read-snapshot, total, step}
@@ -117,7 +117,7 @@ fifteen =
     ∷ []
 
 pub fifteen-hold : Every Holds fifteen
-unfolding fifteen Holds answers-of words-after hold outcome making registering starting-v-read starting-v-cas starting-take-snapshot starting-read-snapshot starting-total stepping table row-of header-damaged-at running-damaged fetch-head line-20 line-21 line-22 line-39 line-43 line-45 line-46 line-48 line-50 line-52 line-5 line-6 line-34 total-32 total-34 closing lines line-of-phase
+unfolding fifteen Holds answers-of words-after hold outcome making registering starting-v-read starting-v-cas starting-take-snapshot starting-read-snapshot starting-total stepping table row-of header-damaged-at running-damaged arguments-damaged kept-damaged fetch-head line-20 line-21 line-22 line-39 line-43 line-45 line-46 line-48 line-50 line-52 line-5 line-6 line-34 total-32 total-34 closing lines line-of-phase
 fifteen-hold =
     ((refl, refl), ((refl, refl), ((refl, refl),
     ((refl, refl), ((refl, refl), ((refl, refl),

@@ -1,0 +1,154 @@
+// The damage tests: each answers the definition of its name in definitions/specs/Damage.antt, without a branch where the words are there to read.
+use crate::fields::{
+    BIRTH, COUNTER, COUNTER_LIMIT, GIVEN_BACK, HANDLE, HEAD, HEADER_WORDS, ITEM, ITEMS, ITEMS_LIMIT, ITEM_WORDS, NEW, NEW_NODE,
+    NODE, NODES_LIMIT, NOTED, OLD, OLDER, PHASE, PROJECT, PROJECTS, SEEN, STAMP, STEPS, SUM_HIGH, SUM_LOW, TBD, USED, VALUE,
+    WORKERS, WORKER_WORDS,
+};
+use crate::nodes;
+use crate::phases::row_at;
+use definitions::PhaseRow;
+ghost use mathlib.Core.Path.{_≡_};
+ghost use mathlib.Core.Bool.{_||_};
+ghost use Prim.Native.Nat.{ℕ, _+_, _*_, _<_, _≤_};
+ghost use lib.ListN.{length, getD};
+ghost use Rattle.definitions.specs.Cells.{cells-at, needed};
+ghost use Rattle.definitions.specs.Damage.{any-of, outside, sizes-outside, header-damaged-at, header-damaged, arguments-damaged, kept-damaged, running-damaged, worker-damaged, item-damaged};
+ghost use Rattle.tables.specs.Ranges.{node-outside};
+
+fn beyond(x: u32, low: u32, high: u32) -> bool
+    ensures { λ r. ⌜ r ≡ outside low high x ⌝ }
+{
+    (x < low) | (high < x)
+}
+
+// Document 01's ranges of P, M, N, Q and C.
+pub fn sizes_beyond(p: u32, m: u32, n: u32, q: u32, c: u32) -> bool
+    ensures { λ r. ⌜ r ≡ any-of (sizes-outside p m n q c) ⌝ }
+{
+    beyond(p, 1, 64) | beyond(m, 1, 256) | beyond(n, 1, 4096) | beyond(q, 1, 256) | beyond(c, 1, 4294967294)
+}
+
+// The words that a catalogue of these sizes needs; no 32-bit sizes make it overflow.
+pub fn words_needed(p: u32, m: u32, n: u32) -> u64
+    ensures { λ r. ⌜ r ≡ needed p m n ⌝ }
+{
+    16 + 16 * (p as u64) + 4 * (m as u64) + 3 * (n as u64)
+}
+
+fn header_beyond(count: usize, p: u32, m: u32, n: u32, q: u32, c: u32, counter: u32, items: u32, used: u32, back: u32) -> bool
+    ensures { λ r. ⌜ r ≡ header-damaged-at count p m n q c counter items used back ⌝ }
+{
+    sizes_beyond(p, m, n, q, c) | (c < counter) | (m < items) | (n < used) | (used < back) | ((count as u64) < words_needed(p, m, n))
+}
+
+// The header, and fewer lent words than it needs.
+pub fn header_is_damaged(words: &[u32]) -> bool
+    ensures { λ r. ⌜ r ≡ header-damaged (now (words .entry)) ⌝ }
+{
+    if words.len() < HEADER_WORDS {
+        return true;
+    }
+    header_beyond(
+        words.len(),
+        words[WORKERS],
+        words[ITEMS_LIMIT],
+        words[NODES_LIMIT],
+        words[PROJECTS],
+        words[COUNTER_LIMIT],
+        words[COUNTER],
+        words[ITEMS],
+        words[USED],
+        words[GIVEN_BACK],
+    )
+}
+
+// A total's running sum, of its two words.
+pub fn sum_of(high: u32, low: u32) -> u64
+    ensures { λ r. ⌜ r ≡ high * 4294967296 + low ⌝ }
+{
+    (high as u64) * 4294967296 + (low as u64)
+}
+
+// The arguments of the operation that a record runs.
+fn arguments_are_damaged(words: &[u32], w: usize, row: PhaseRow) -> bool
+    requires { ⌜ 16 + 16 * w + 16 ≤ length (now words) ⌝ }
+    ensures { λ r. ⌜ ((a b : ℕ) → r ≡ arguments-damaged row (cells-at a b (now (words .entry))) w) ⌝ }
+{
+    let at = HEADER_WORDS + WORKER_WORDS * w;
+    if row.operation == 1 {
+        return words[ITEMS] <= words[at + ITEM];
+    }
+    if row.operation == 2 {
+        return (words[ITEMS] <= words[at + ITEM]) | (words[PROJECTS] <= words[at + OLD]) | (words[PROJECTS] <= words[at + NEW]);
+    }
+    if row.operation == 3 {
+        return false;
+    }
+    if row.operation == 4 {
+        return (words[ITEMS] <= words[at + ITEM]) | (words[COUNTER] <= words[at + HANDLE]);
+    }
+    (words[PROJECTS] <= words[at + PROJECT])
+        | (words[COUNTER] <= words[at + HANDLE])
+        | (words[ITEMS] < words[at + NOTED])
+        | (words[at + NOTED] < words[at + ITEM])
+        | (((row.operation != 3) & (row.line != 0)) & (words[at + NOTED] <= words[at + ITEM]))
+        | (1099511627776 < sum_of(words[at + SUM_HIGH], words[at + SUM_LOW]))
+}
+
+// What the record keeps for its lines.
+fn kept_is_damaged(words: &[u32], w: usize, row: PhaseRow) -> bool
+    requires { ⌜ 16 + 16 * w + 16 ≤ length (now words) ⌝ }
+    ensures { λ r. ⌜ ((a b : ℕ) → r ≡ kept-damaged row (cells-at a b (now (words .entry))) w) ⌝ }
+{
+    let at = HEADER_WORDS + WORKER_WORDS * w;
+    let line = row.line;
+    (((line == 20) | (line == 21) | (line == 22) | (line == 34) | (line == 39) | (line == 43) | (line == 45) | (line == 46))
+        & (words[USED] <= words[at + NODE]))
+        | (((line == 46) | (line == 50)) & (words[USED] <= words[at + NEW_NODE]))
+        | ((line == 22) & (words[COUNTER] < words[at + SEEN]))
+        | ((line == 6) & (words[COUNTER_LIMIT] <= words[at + SEEN]))
+}
+
+// A running record, at the table's entry for its phase.
+pub fn running_is_damaged(words: &[u32], w: usize, row: PhaseRow) -> bool
+    requires { ⌜ 16 + 16 * w + 16 ≤ length (now words) ⌝ }
+    ensures { λ r. ⌜ ((a b : ℕ) → r ≡ running-damaged row (cells-at a b (now (words .entry))) w) ⌝ }
+{
+    let at = HEADER_WORDS + WORKER_WORDS * w;
+    (5120 < words[at + STEPS]) | arguments_are_damaged(words, w, row) | kept_is_damaged(words, w, row)
+}
+
+// A worker's record.
+pub fn worker_is_damaged(words: &[u32], w: usize) -> bool
+    requires { ⌜ 16 + 16 * w + 16 ≤ length (now words) ⌝ }
+    ensures { λ r. ⌜ ((a b : ℕ) → r ≡ worker-damaged (cells-at a b (now (words .entry))) w) ⌝ }
+{
+    let at = HEADER_WORDS + WORKER_WORDS * w;
+    let phase = words[at + PHASE];
+    if 35 < phase {
+        return true;
+    }
+    if phase == 0 {
+        return false;
+    }
+    let row = row_at(phase as usize);
+    running_is_damaged(words, w, row)
+}
+
+// An item's record.
+pub fn item_is_damaged(words: &[u32], items_at: usize, i: usize) -> bool
+    requires { ⌜ (9 ≤ length (now words)) × («items_at» + 4 * i + 4 ≤ length (now words)) ⌝ }
+    ensures { λ r. ⌜ ((b : ℕ) → r ≡ item-damaged (cells-at «items_at» b (now (words .entry))) i) ⌝ }
+{
+    let at = items_at + ITEM_WORDS * i;
+    (words[USED] <= words[at + HEAD]) | (words[COUNTER] < words[at + BIRTH])
+}
+
+// All three words of node n, in the node part.
+pub fn node_is_damaged(nodes: &[u32], n: usize, projects: u32, used: u32, counter: u32) -> bool
+    requires { ⌜ 3 * n + 2 < length (now nodes) ⌝ }
+    ensures { λ r. ⌜ r ≡ node-outside (now (nodes .entry)) n projects used counter ⌝ }
+{
+    let stamp = nodes[3 * n + STAMP];
+    (projects <= nodes[3 * n + VALUE]) | (used < nodes[3 * n + OLDER]) | ((counter < stamp) & (stamp != TBD))
+}
