@@ -3,4 +3,7 @@
 pub mod endings;
 pub mod help;
 pub mod snapshot;
+pub mod take;
+pub mod total;
+pub mod vcas;
 pub mod vread;

@@ -38,7 +38,7 @@ part-is ws b = take-all (length ws - b) (drop b ws) (omega (arith, length-drop b
 pub read-part : (ws : List ℕ) (b k : ℕ) → getD (part ws b) k 0 ≡ getD ws (b + k) 0
 read-part ws b k = ap (λ (l : List ℕ). getD l k 0) (part-is ws b) ∙ getD-drop b ws k 0
 
-length-stored : (ws : List ℕ) (ss : List Store) → length (stored ws ss) ≡ length ws
+pub length-stored : (ws : List ℕ) (ss : List Store) → length (stored ws ss) ≡ length ws
 length-stored ws [] = refl
 length-stored ws (s ∷ ss) = length-stored (set ws (s .at) (s .what)) ss ∙ length-set ws (s .at) (s .what)
 
@@ -56,3 +56,7 @@ write-part ws b ss {ns} e =
     let lent : stored (part ws b) ss ≡ drop b (stored ws (shifted b ss)) = ap (λ (l : List ℕ). stored l ss) (part-is ws b) ∙ sym (drop-stored ws b ss) in
     rw (drop-of-length-le (drop b ws) {i = length ws - b} (omega (arith, length-drop b ws)), append-nil, e, lent, ← take-stored ws b ss)
     (take-append-drop b (stored ws (shifted b ss)))
+
+-- Words after stores in the part are as many as before.
+pub length-back : (ws : List ℕ) (b : ℕ) (ss : List Store) {ns : List ℕ} → ns ≡ stored (part ws b) ss → length (back ws b ns) ≡ length ws
+length-back ws b ss e = ap length (write-part ws b ss e) ∙ length-stored ws (shifted b ss)
