@@ -1,17 +1,11 @@
-// Lines 5 and 6, takeSnapshot; line 34 of readSnapshot.
-use crate::endings::{end_with, finish, go_on, refuse};
+// Lines 5 and 6, takeSnapshot.
+use crate::endings::{end_with, finish, go_on};
 use definitions::Answer;
-use tables::fields::{
-    COUNTER, COUNTER_LIMIT, HANDLE, HEADER_WORDS, NODE, OLDER, PHASE, PROJECTS, SEEN, STAMP, STEPS, USED, VALUE, WORKER_WORDS,
-};
-use tables::nodes;
-ghost use mathlib.Core.Path.{_≡_};
+use tables::fields::{COUNTER, COUNTER_LIMIT, HEADER_WORDS, PHASE, SEEN, STEPS, WORKER_WORDS};
 ghost use Prim.Native.Nat.{_+_, _*_, _<_};
-ghost use lib.ListN.{length, getD};
-ghost use Rattle.definitions.specs.Cells.{cells-at};
-ghost use Rattle.definitions.specs.Lines.{line, no-words, tested-node, line-5, line-6, to-older, line-34};
-ghost use Rattle.definitions.specs.Promises.{Met};
-ghost use Rattle.lines.specs.Stepped.{Steps, Ready, Has-node, Has-older, node-tested};
+ghost use lib.ListN.{getD};
+ghost use Rattle.definitions.specs.Lines.{line, no-words, line-5, line-6};
+ghost use Rattle.lines.specs.Stepped.{Steps, Ready};
 
 // Line 5: the counter is read, unless it has reached its limit.
 pub fn line_5(words: &mut [u32], items_at: usize, nodes_at: usize, w: usize) -> Answer
@@ -41,49 +35,4 @@ pub fn line_6(words: &mut [u32], items_at: usize, nodes_at: usize, w: usize) -> 
         return finish(words, w, seen as u64, steps);
     }
     finish(words, w, seen as u64, steps)
-}
-
-// Line 34's test of a node, in the node part: its stamp, and the one word that it reads after that.
-pub fn tested_is_damaged(nodes: &[u32], n: usize, handle: u32, projects: u32, used: u32, counter: u32) -> bool
-    requires { ⌜ 3 * n + 2 < length (now nodes) ⌝ }
-    ensures { λ r. ⌜ r ≡ node-tested (now (nodes .entry)) n handle projects used counter ⌝ }
-{
-    let value = nodes::word(nodes, n, VALUE);
-    let older = nodes::word(nodes, n, OLDER);
-    let stamp = nodes::word(nodes, n, STAMP);
-    (counter < stamp) | ((handle < stamp) & ((older == 0) | (used < older))) | (!(handle < stamp) & (projects <= value))
-}
-
-// A stamp above the handle leads to the older node, in readSnapshot and in total.
-pub fn go_to_older(words: &mut [u32], items_at: usize, nodes_at: usize, w: usize) -> Answer
-    requires { ⌜ Ready «items_at» «nodes_at» w (now words) × Has-node w (now words) × Has-older «items_at» «nodes_at» w (now words) ⌝ }
-    ensures { λ r. ⌜ Met «items_at» «nodes_at» (now (words .entry)) (to-older (cells-at «items_at» «nodes_at» (now (words .entry))) w) r (now (words .exit)) ⌝ }
-{
-    let at = HEADER_WORDS + WORKER_WORDS * w;
-    let phase = words[at + PHASE];
-    let steps = words[at + STEPS];
-    let n = words[at + NODE] as usize;
-    let older = nodes::word(&words[nodes_at..], n, OLDER);
-    words[at + NODE] = older - 1;
-    go_on(words, w, phase, steps)
-}
-
-// Line 34 of readSnapshot: any other stamp answers the value.
-pub fn line_34(words: &mut [u32], items_at: usize, nodes_at: usize, w: usize) -> Answer
-    requires { ⌜ Ready «items_at» «nodes_at» w (now words) × Has-node w (now words) ⌝ }
-    ensures { λ r. ⌜ Steps (line tested-node line-34) «items_at» «nodes_at» w (now (words .entry)) r (now (words .exit)) ⌝ }
-{
-    let at = HEADER_WORDS + WORKER_WORDS * w;
-    let steps = words[at + STEPS];
-    let n = words[at + NODE] as usize;
-    let handle = words[at + HANDLE];
-    if tested_is_damaged(&words[nodes_at..], n, handle, words[PROJECTS], words[USED], words[COUNTER]) {
-        return refuse(2);
-    }
-    let stamp = nodes::word(&words[nodes_at..], n, STAMP);
-    if handle < stamp {
-        return go_to_older(words, items_at, nodes_at, w);
-    }
-    let value = nodes::word(&words[nodes_at..], n, VALUE);
-    finish(words, w, value as u64, steps)
 }
