@@ -35,13 +35,16 @@ abbrev pub sound-item : Cells → ℕ → List Refusal
 sound-item m i = bad-item m i ⇒ 6 ∷ item-damaged m i ⇒ 2 ∷ []
 
 -- Register takes a node, stamps it with the present counter, and gives the next item's number.
-unfoldable pub registering : Cells → ℕ → ℕ → Outcome
-registering m v s =
-    unless (bad-value m v ⇒ 7 ∷ leb (m items-limit) (m items) ⇒ 10 ∷ no-node m ⇒ 11 ∷ node-damaged m (node-to-take m) ⇒ 2 ∷ [])
-    (accepts (m items)
+abbrev pub registered : Cells → ℕ → ℕ → Outcome
+registered m v s =
+    accepts (m items)
     (taking m
     ++ (value (node-to-take m) ≔ v ∷ older (node-to-take m) ≔ 0 ∷ stamp (node-to-take m) ≔ m counter
-    ∷ head (m items) ≔ node-to-take m ∷ birth (m items) ≔ m counter ∷ size (m items) ≔ s ∷ items ≔ (m items + 1) ∷ [])))
+    ∷ head (m items) ≔ node-to-take m ∷ birth (m items) ≔ m counter ∷ size (m items) ≔ s ∷ items ≔ (m items + 1) ∷ []))
+
+unfoldable pub registering : Cells → ℕ → ℕ → Outcome
+registering m v s =
+    unless (bad-value m v ⇒ 7 ∷ leb (m items-limit) (m items) ⇒ 10 ∷ no-node m ⇒ 11 ∷ node-damaged m (node-to-take m) ⇒ 2 ∷ []) (registered m v s)
 
 -- The starts. Each touches the worker's record alone.
 unfoldable pub starting-v-read : Cells → ℕ → ℕ → Outcome

@@ -66,3 +66,6 @@ some-of (t ∷ ts) (suc k) e = from-some t ts k e
 pub short-damaged : (count p m n q c now held taken back : ℕ) → count < 16 → header-damaged-at count p m n q c now held taken back ≡ true
 unfolding header-damaged-at
 short-damaged count p m n q c now held taken back h = some-of (header-tests count p m n q c now held taken back) 5 (lt-ltb count (needed p m n) (omega arith))
+
+pub neither : (a b : Bool) → a ≡ false → b ≡ false → (a || b) ≡ false
+neither a b e f = rw (e, f)

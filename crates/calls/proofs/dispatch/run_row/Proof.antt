@@ -1,0 +1,54 @@
+use mathlib.Core.Path.{_≡_, refl, _∙_, ap, sym}
+use mathlib.Core.Bool.{true, false}
+use mathlib.Core.List.{[], _∷_, _++_}
+use Prim.Native.Nat.{ℕ, _+_, _*_, _-_, _<_, _≤_}
+use lib.ListN.{length, getD}
+use native.Mathlib.Omega.{arith}
+use borrow.Author.Tests.{eq-eqb, ne-eqb, lt-ltb, le-ltb, le-leb, lt-leb}
+use Rattle.definitions.specs.Cells.{cells-at, cells-of, items-at, nodes-at}
+use Rattle.lines.specs.Laws.{met-if, met-else, refuses}
+use Rattle.calls.specs.Refusals.{done}
+use Rattle.calls.specs.Facts.{header-sound, item-there, known-phase, can-take-at}
+use Rattle.calls.specs.Dispatch.{fit, row-operation, row-snapshot, line-tied}
+use borrow.Author.Needs.{needs}
+use Rattle.calls.proofs.dispatch.run_row.Statement.{statement}
+use Rattle.calls.proofs.dispatch.run_row.Tie as tie
+use Rattle.calls.proofs.dispatch.run_row.Reads as reads
+use Rattle.calls.proofs.dispatch.run_row.Lts as lts
+use Rattle.calls.proofs.dispatch.run_numbered_line.Reads as run-numbered-line-reads
+use Rattle.calls.proofs.dispatch.run_snapshot_line.Reads as run-snapshot-line-reads
+
+-- src/dispatch.rt:81:9
+run-snapshot-line-requires : tie.Need-run-snapshot-line-requires
+run-snapshot-line-requires c κs = let h = c .before .before .before .before .pre in (h .0, h .2 (c .before .if1 .taken))
+
+-- src/dispatch.rt:81:9
+same-length : tie.Need-same-length
+same-length c = search needs
+
+-- src/dispatch.rt:81:9
+returns : tie.Need-returns
+returns c = rw (ne-eqb _ _ (c .before .before .before .before .before .before .before .pre .1), eq-eqb _ _ (c .before .before .before .before .if1 .taken)) (c .before .before .run-snapshot-line .ensures)
+
+-- src/dispatch.rt:83:5
+run-numbered-line-requires : tie.Need-run-numbered-line-requires
+run-numbered-line-requires c κs = search needs
+
+-- src/dispatch.rt:76:1
+same-length-2 : tie.Need-same-length-2
+same-length-2 c = search needs
+
+-- src/dispatch.rt:76:1
+returns-2 : tie.Need-returns-2
+returns-2 c = rw (ne-eqb _ _ (c .before .before .before .before .before .before .before .pre .1), ne-eqb _ _ (c .before .before .before .before .if1 .left)) (c .before .before .run-numbered-line .ensures)
+
+pub run-row-spec : {M : Type 1} → statement M
+run-row-spec =
+    tie.close
+    (tie.spec
+    run-snapshot-line-requires
+    same-length
+    returns
+    run-numbered-line-requires
+    same-length-2
+    returns-2)

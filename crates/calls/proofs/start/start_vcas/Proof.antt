@@ -1,0 +1,136 @@
+use mathlib.Core.Path.{_≡_, refl, _∙_, ap, sym}
+use mathlib.Core.Bool.{true, false, cond, _||_}
+use mathlib.Core.List.{List, [], _∷_, _++_}
+use Prim.Native.Nat.{ℕ, _+_, _*_, _-_, _<_, _≤_}
+use lib.Dec.{ltb, eqb}
+use lib.ListN.{length, getD}
+use native.Mathlib.Omega.{arith}
+use borrow.Author.Tests.{eq-eqb, ne-eqb, lt-ltb, le-ltb, le-leb, lt-leb}
+use Rattle.definitions.specs.Answers.{Outcome, Refusal, _⇒_, accepts}
+use Rattle.definitions.specs.Cells.{Cells, cells-at, cells-of, items-at, nodes-at, record-of, birth, items}
+use Rattle.definitions.specs.Damage.{bad-value, bad-handle}
+use Rattle.lines.specs.Laws.{met-if, met-else, refuses}
+use Rattle.calls.specs.Refusals.{done, met-first, met-past, worker-refusals}
+use Rattle.calls.specs.Facts.{Header, header-sound}
+use Rattle.calls.specs.Starts.{here, later, header-there, worker-there, registered-item}
+use Rattle.definitions.specs.Calls.{outcome, starting-v-cas, sound-item}
+use borrow.Author.Needs.{needs}
+use Rattle.calls.proofs.start.start_vcas.Statement.{statement}
+use Rattle.calls.proofs.start.start_vcas.Tie as tie
+use Rattle.calls.proofs.start.start_vcas.Reads as reads
+use Rattle.calls.proofs.start.start_vcas.Lts as lts
+use Rattle.calls.proofs.start.accept.Reads as accept-reads
+use Rattle.calls.proofs.start.item_refusal.Reads as item-refusal-reads
+use Rattle.calls.proofs.start.worker_refusal.Reads as worker-refusal-reads
+use Rattle.lines.proofs.endings.refuse.Reads as refuse-reads
+use Rattle.lines.proofs.endings.write_record.Reads as write-record-reads
+
+values : Cells → ℕ → ℕ → List Refusal
+values m o n = (bad-value m o || bad-value m n) ⇒ 7 ∷ []
+
+then : ℕ → ℕ → ℕ → ℕ → Outcome
+then w i o n = accepts 0 (record-of w 6 i o n 0 0 0)
+
+-- src/start.rt:75:9
+worker-refusal-requires : tie.Need-worker-refusal-requires
+worker-refusal-requires c κs = search needs
+
+-- src/start.rt:77:9
+refuse-requires : tie.Need-refuse-requires
+refuse-requires c κs = search needs
+
+-- src/start.rt:77:9
+same-length : tie.Need-same-length
+same-length c = search needs
+
+-- src/start.rt:77:9
+returns : tie.Need-returns
+unfolding outcome starting-v-cas values then
+returns c = let x = c .before .before .before .before .before .args in let ws = x .words .now in let m = cells-of ws in
+    done {ws = ws} (met-first (worker-refusals ws (x .worker)) (sound-item m (x .item) ++ values m (x .old) (x .new)) (then (x .worker) (x .item) (x .old) (x .new)) (c .before .before .worker-refusal .ensures .0) (c .before .if1 .taken) (c .refuse .ensures))
+
+-- src/start.rt:79:9
+item-refusal-requires : tie.Need-item-refusal-requires
+item-refusal-requires c κs = let x = c .before .before .before .before .before .args in header-there (x .words .now) (x .worker) (c .before .before .worker-refusal .ensures .0) (c .before .if1 .left)
+
+-- src/start.rt:81:9
+refuse-requires-2 : tie.Need-refuse-requires-2
+refuse-requires-2 c κs = search needs
+
+-- src/start.rt:81:9
+same-length-2 : tie.Need-same-length-2
+same-length-2 c = search needs
+
+-- src/start.rt:81:9
+returns-2 : tie.Need-returns-2
+unfolding outcome starting-v-cas values then
+returns-2 c = let x = c .before .before .before .before .before .before .before .before .args in let ws = x .words .now in let m = cells-of ws in let o = then (x .worker) (x .item) (x .old) (x .new) in
+    done {ws = ws} (met-past (worker-refusals ws (x .worker)) (sound-item m (x .item) ++ values m (x .old) (x .new)) o (c .before .before .before .before .before .worker-refusal .ensures .0) (c .before .before .before .before .if1 .left) refl
+    (met-first (sound-item m (x .item)) (values m (x .old) (x .new)) o (c .before .before .item-refusal .ensures .0) (c .before .if2 .taken) (c .refuse2 .ensures)))
+
+-- src/start.rt:83:9
+slice-read-if3 : tie.Need-slice-read-if3
+slice-read-if3 c = let x = c .before .before .before .before .before .before .before .before .args in omega (arith, header-there (x .words .now) (x .worker) (c .before .before .before .before .before .worker-refusal .ensures .0) (c .before .before .before .before .if1 .left))
+
+-- src/start.rt:83:36
+slice-read-if3-2 : tie.Need-slice-read-if3-2
+slice-read-if3-2 c = let x = c .before .before .before .before .before .before .before .before .before .args in omega (arith, header-there (x .words .now) (x .worker) (c .before .before .before .before .before .before .worker-refusal .ensures .0) (c .before .before .before .before .before .if1 .left))
+
+-- src/start.rt:84:9
+refuse-requires-3 : tie.Need-refuse-requires-3
+refuse-requires-3 c κs = search needs
+
+-- src/start.rt:84:9
+same-length-3 : tie.Need-same-length-3
+same-length-3 c = search needs
+
+-- src/start.rt:84:9
+returns-3 : tie.Need-returns-3
+unfolding outcome starting-v-cas values then
+returns-3 c = let x = c .before .before .before .before .before .before .before .before .before .before .before .args in let ws = x .words .now in let m = cells-of ws in let o = then (x .worker) (x .item) (x .old) (x .new) in
+    done {ws = ws} (met-past (worker-refusals ws (x .worker)) (sound-item m (x .item) ++ values m (x .old) (x .new)) o (c .before .before .before .before .before .before .before .before .worker-refusal .ensures .0) (c .before .before .before .before .before .before .before .if1 .left) refl
+    (met-past (sound-item m (x .item)) (values m (x .old) (x .new)) o (c .before .before .before .before .before .item-refusal .ensures .0) (c .before .before .before .before .if2 .left) refl
+    (met-if _ (c .before .if3 .taken) (refuses 7 (c .refuse3 .ensures)))))
+
+-- src/start.rt:86:5
+write-record-requires : tie.Need-write-record-requires
+write-record-requires c κs = let x = c .before .before .before .before .before .before .before .before .before .before .before .args in let ws = x .words .now in
+    omega (arith, header-there ws (x .worker) (c .before .before .before .before .before .before .before .before .worker-refusal .ensures .0) (c .before .before .before .before .before .before .before .if1 .left), worker-there ws (x .worker) (c .before .before .before .before .before .before .before .before .worker-refusal .ensures .0) (c .before .before .before .before .before .before .before .if1 .left))
+
+-- src/start.rt:87:5
+accept-requires : tie.Need-accept-requires
+accept-requires c κs = search needs
+
+-- src/start.rt:72:1
+same-length-4 : tie.Need-same-length-4
+same-length-4 c = search needs
+
+-- src/start.rt:72:1
+returns-4 : tie.Need-returns-4
+unfolding outcome starting-v-cas values then
+returns-4 c = let x = c .before .before .before .before .before .before .before .before .before .before .before .before .before .before .before .args in let ws = x .words .now in let m = cells-of ws in let o = then (x .worker) (x .item) (x .old) (x .new) in
+    done {ws = ws} (met-past (worker-refusals ws (x .worker)) (sound-item m (x .item) ++ values m (x .old) (x .new)) o (c .before .before .before .before .before .before .before .before .before .before .before .before .worker-refusal .ensures .0) (c .before .before .before .before .before .before .before .before .before .before .before .if1 .left) refl
+    (met-past (sound-item m (x .item)) (values m (x .old) (x .new)) o (c .before .before .before .before .before .before .before .before .before .item-refusal .ensures .0) (c .before .before .before .before .before .before .before .before .if2 .left) refl
+    (met-else _ (c .before .before .before .before .before .if3 .left) (record { answers = c .accept .ensures; leaves = c .before .before .before .write-record .ensures }))))
+
+pub start-vcas-spec : {M : Type 1} → statement M
+start-vcas-spec =
+    tie.close
+    (tie.spec
+    worker-refusal-requires
+    refuse-requires
+    same-length
+    returns
+    item-refusal-requires
+    refuse-requires-2
+    same-length-2
+    returns-2
+    slice-read-if3
+    slice-read-if3-2
+    refuse-requires-3
+    same-length-3
+    returns-3
+    write-record-requires
+    accept-requires
+    same-length-4
+    returns-4)

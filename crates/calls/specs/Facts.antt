@@ -1,0 +1,186 @@
+-- What passed damage tests tell: where everything stands, and what a line may take for granted.
+use Prim.Native.Nat.{ℕ, _+_, _*_, _-_, _<_, _≤_}
+use mathlib.Core.Path.{_≡_, refl, ap, sym, _∙_}
+use mathlib.Core.Bool.{Bool, true, false, false≢true, cond, not, _||_, _&&_}
+use mathlib.Core.List.{List, [], _∷_}
+use lib.Dec.{ltb, leb, eqb}
+use lib.ListN.{getD, length}
+use native.Mathlib.Omega.{arith}
+use borrow.Author.Tests.{ltb-false, leb-false, eq-eqb, ne-eqb, eqb-true, eqb-false}
+use Rattle.definitions.specs.declared.PhaseRow.{PhaseRow}
+use Rattle.definitions.specs.Cells.{Cells, cells-at, cells-of, items-at, nodes-at, needed, workers, items-limit, nodes-limit, projects, counter-limit, counter, items, used, given-back, phase, steps, item, old, new, handle, noted, node, new-node, seen}
+use Rattle.definitions.specs.Phases.{row-of}
+use Rattle.definitions.specs.Damage.{any-of, outside, sizes-outside, header-tests, header-damaged-at, header-damaged, bad-item, bad-value, bad-handle, bad-node, bad-time, inside-item, sum, total-tests, arguments-damaged, keeps-node, keeps-new-node, kept-tests, kept-damaged, running-damaged, worker-damaged, item-damaged}
+use Rattle.tables.specs.Ranges.{none-of, some-of}
+use Rattle.definitions.specs.Answers.{Outcome, _⇒_, unless}
+use Rattle.definitions.specs.Lines.{line-of-phase, no-node}
+use Rattle.lines.specs.Stepped.{Ready, In-item, Has-node, Has-new-node, Small-sum, stepped, Can-take}
+
+within : (low high x : ℕ) → outside low high x ≡ false → x ≤ high
+within low high x e = ltb-false high x (none-of (ltb x low ∷ ltb high x ∷ []) 1 e)
+
+-- A header that is not damaged.
+pub record Header (ws : List ℕ) : Type 0 where
+  pub few-workers : getD ws 0 0 ≤ 64
+  pub few-items : getD ws 1 0 ≤ 256
+  pub few-nodes : getD ws 2 0 ≤ 4096
+  pub counter : getD ws 5 0 ≤ getD ws 4 0
+  pub items : getD ws 6 0 ≤ getD ws 1 0
+  pub used : getD ws 7 0 ≤ getD ws 2 0
+  pub given-back : getD ws 8 0 ≤ getD ws 7 0
+  pub long : 16 + 16 * getD ws 0 0 + 4 * getD ws 1 0 + 3 * getD ws 2 0 ≤ length ws
+
+pub header-sound : (ws : List ℕ) → header-damaged ws ≡ false → Header ws
+unfolding header-damaged-at
+header-sound ws e =
+    let p = getD ws 0 0 in
+    let m = getD ws 1 0 in
+    let n = getD ws 2 0 in
+    let q = getD ws 3 0 in
+    let c = getD ws 4 0 in
+    let tests = header-tests (length ws) p m n q c (getD ws 5 0) (getD ws 6 0) (getD ws 7 0) (getD ws 8 0) in
+    let sizes = none-of (sizes-outside p m n q c) in
+    let first = none-of tests 0 e in
+    record {
+      few-workers = within 1 64 p (sizes 0 first);
+      few-items = within 1 256 m (sizes 1 first);
+      few-nodes = within 1 4096 n (sizes 2 first);
+      counter = ltb-false c (getD ws 5 0) (none-of tests 1 e);
+      items = ltb-false m (getD ws 6 0) (none-of tests 2 e);
+      used = ltb-false n (getD ws 7 0) (none-of tests 3 e);
+      given-back = ltb-false (getD ws 7 0) (getD ws 8 0) (none-of tests 4 e);
+      long = ltb-false (length ws) (needed p m n) (none-of tests 5 e) }
+
+and-true : (s t : Bool) → s ≡ true → (s && t) ≡ false → t ≡ false
+and-true true t e h = h
+and-true false t e h = absurd (false≢true e)
+
+and-false : (s t : Bool) → s ≡ false → (s || t) ≡ false → t ≡ false
+and-false true t e h = absurd (false≢true (sym e))
+and-false false t e h = h
+
+-- A worker's record that is not damaged and not idle.
+pub worker-sound : (m : Cells) (w : ℕ) → worker-damaged m w ≡ false → (m (phase w) ≡ 0 → ⊥) → running-damaged (row-of (m (phase w))) m w ≡ false
+worker-sound m w e busy =
+    let rest = not (eqb (m (phase w)) 0) && running-damaged (row-of (m (phase w))) m w in
+    and-true (not (eqb (m (phase w)) 0)) (running-damaged (row-of (m (phase w))) m w) (ap not (ne-eqb (m (phase w)) 0 busy))
+    (none-of (ltb 35 (m (phase w)) ∷ rest ∷ []) 1 e)
+
+pub known-phase : (m : Cells) (w : ℕ) → worker-damaged m w ≡ false → m (phase w) ≤ 35
+known-phase m w e =
+    ltb-false 35 (m (phase w)) (none-of (ltb 35 (m (phase w)) ∷ (not (eqb (m (phase w)) 0) && running-damaged (row-of (m (phase w))) m w) ∷ []) 0 e)
+
+module _ (r : PhaseRow) (m : Cells) (w : ℕ) where
+  pub few-steps : running-damaged r m w ≡ false → m (steps w) < 5121
+  unfolding running-damaged
+  few-steps e = let h = ltb-false 5120 (m (steps w)) (none-of (ltb 5120 (m (steps w)) ∷ arguments-damaged r m w ∷ kept-damaged r m w ∷ []) 0 e) in omega arith
+
+  pub arguments-sound : running-damaged r m w ≡ false → arguments-damaged r m w ≡ false
+  unfolding running-damaged
+  arguments-sound e = none-of (ltb 5120 (m (steps w)) ∷ arguments-damaged r m w ∷ kept-damaged r m w ∷ []) 1 e
+
+  pub kept-sound : running-damaged r m w ≡ false → kept-damaged r m w ≡ false
+  unfolding running-damaged
+  kept-sound e = none-of (ltb 5120 (m (steps w)) ∷ arguments-damaged r m w ∷ kept-damaged r m w ∷ []) 2 e
+
+  -- The lines at which the record keeps a node, by their place in that list.
+  pub node-kept : (k : ℕ) → kept-damaged r m w ≡ false
+      → getD (eqb (r .line) 20 ∷ eqb (r .line) 21 ∷ eqb (r .line) 22 ∷ eqb (r .line) 34 ∷ eqb (r .line) 39 ∷ eqb (r .line) 43 ∷ eqb (r .line) 45 ∷ eqb (r .line) 46 ∷ []) k false ≡ true
+      → m (node w) < m used
+  unfolding kept-damaged
+  node-kept k e h =
+      let keeps = some-of (eqb (r .line) 20 ∷ eqb (r .line) 21 ∷ eqb (r .line) 22 ∷ eqb (r .line) 34 ∷ eqb (r .line) 39 ∷ eqb (r .line) 43 ∷ eqb (r .line) 45 ∷ eqb (r .line) 46 ∷ []) k h in
+      leb-false (m used) (m (node w)) (and-true (keeps-node r) (bad-node m (m (node w))) keeps (none-of (kept-tests r m w) 0 e))
+
+  pub new-node-kept : kept-damaged r m w ≡ false → r .line ≡ 50 → m (new-node w) < m used
+  unfolding kept-damaged
+  new-node-kept e h =
+      let keeps = some-of (eqb (r .line) 46 ∷ eqb (r .line) 50 ∷ []) 1 (eq-eqb (r .line) 50 h) in
+      leb-false (m used) (m (new-node w)) (and-true (keeps-new-node r) (bad-node m (m (new-node w))) keeps (none-of (kept-tests r m w) 1 e))
+
+  pub seen-kept : kept-damaged r m w ≡ false → r .line ≡ 6 → m (seen w) < m counter-limit
+  unfolding kept-damaged
+  seen-kept e h =
+      leb-false (m counter-limit) (m (seen w)) (and-true (eqb (r .line) 6) (leb (m counter-limit) (m (seen w))) (eq-eqb (r .line) 6 h) (none-of (kept-tests r m w) 3 e))
+
+  -- Inside an item, the item is registered: by each operation's own tests.
+  pub item-there : arguments-damaged r m w ≡ false → (r .operation ≡ 3 → ⊥) → (r .line ≡ 0 → ⊥) → m (item w) < m items
+  unfolding arguments-damaged
+  item-there e takes inside = first (eqb (r .operation) 1) e
+    where
+      a-total : any-of (total-tests r m w) ≡ false → m (item w) < m items
+      a-total h =
+          let place = and-true (inside-item r) (leb (m (noted w)) (m (item w)))
+              (ap (λ (b : Bool). not b && not (eqb (r .line) 0)) (ne-eqb (r .operation) 3 takes) ∙ ap not (ne-eqb (r .line) 0 inside))
+              (none-of (total-tests r m w) 4 h) in
+          let below = leb-false (m (noted w)) (m (item w)) place in
+          let noted-few = ltb-false (m items) (m (noted w)) (none-of (total-tests r m w) 2 h) in
+          omega arith
+      registered : bad-item m (m (item w)) ≡ false → m (item w) < m items
+      registered h = leb-false (m items) (m (item w)) h
+      fourth : (t : Bool) → cond t (any-of (bad-item m (m (item w)) ∷ bad-handle m (m (handle w)) ∷ [])) (any-of (total-tests r m w)) ≡ false → m (item w) < m items
+      fourth true h = registered (none-of (bad-item m (m (item w)) ∷ bad-handle m (m (handle w)) ∷ []) 0 h)
+      fourth false h = a-total h
+      third : (t : Bool) → eqb (r .operation) 3 ≡ t
+          → cond t false (cond (eqb (r .operation) 4) (any-of (bad-item m (m (item w)) ∷ bad-handle m (m (handle w)) ∷ [])) (any-of (total-tests r m w))) ≡ false → m (item w) < m items
+      third true q h = absurd (takes (eqb-true (r .operation) 3 q))
+      third false q h = fourth (eqb (r .operation) 4) h
+      second : (t : Bool) → cond t (any-of (bad-item m (m (item w)) ∷ bad-value m (m (old w)) ∷ bad-value m (m (new w)) ∷ []))
+          (cond (eqb (r .operation) 3) false
+          (cond (eqb (r .operation) 4) (any-of (bad-item m (m (item w)) ∷ bad-handle m (m (handle w)) ∷ [])) (any-of (total-tests r m w)))) ≡ false → m (item w) < m items
+      second true h = registered (none-of (bad-item m (m (item w)) ∷ bad-value m (m (old w)) ∷ bad-value m (m (new w)) ∷ []) 0 h)
+      second false h = third (eqb (r .operation) 3) refl h
+      first : (t : Bool) → cond t (bad-item m (m (item w)))
+          (cond (eqb (r .operation) 2) (any-of (bad-item m (m (item w)) ∷ bad-value m (m (old w)) ∷ bad-value m (m (new w)) ∷ []))
+          (cond (eqb (r .operation) 3) false
+          (cond (eqb (r .operation) 4) (any-of (bad-item m (m (item w)) ∷ bad-handle m (m (handle w)) ∷ [])) (any-of (total-tests r m w))))) ≡ false → m (item w) < m items
+      first true h = registered h
+      first false h = second (eqb (r .operation) 2) h
+
+  -- A total's sum leaves room.
+  pub sum-small : arguments-damaged r m w ≡ false → r .operation ≡ 5 → sum m w ≤ 1099511627776
+  unfolding arguments-damaged
+  sum-small e five = ltb-false 1099511627776 (sum m w) (none-of (total-tests r m w) 5 is-total)
+    where
+      differs : (k : ℕ) → (5 ≡ k → ⊥) → eqb (r .operation) k ≡ false
+      differs k h = ne-eqb (r .operation) k (λ q. h (sym five ∙ q))
+      is-total : any-of (total-tests r m w) ≡ false
+      is-total = rw (differs 3 (λ q. omega arith)) (rw (differs 1 (λ q. omega arith), differs 2 (λ q. omega arith), differs 3 (λ q. omega arith), differs 4 (λ q. omega arith)) at e)
+
+-- Everything has its place, and the step can be counted.
+pub ready : (ws : List ℕ) (w : ℕ) → Header ws → w < getD ws 0 0 → worker-damaged (cells-of ws) w ≡ false → (cells-of ws (phase w) ≡ 0 → ⊥) → Ready (items-at ws) (nodes-at ws) w ws
+ready ws w h l e busy =
+    let m = cells-of ws in
+    let few = few-steps (row-of (m (phase w))) m w (worker-sound m w e busy) in
+    let known = known-phase m w e in
+    record {
+      worker = omega (arith, l);
+      items = omega (arith, h .items);
+      nodes = h .long;
+      used = h .used;
+      given-back = h .given-back;
+      few-nodes = h .few-nodes;
+      few-items = omega (arith, h .items, h .few-items);
+      phase = omega (arith, known);
+      steps = few }
+
+-- A busy worker whose record is not damaged; and its step, past the refusals that come before.
+pub record Busy (w : ℕ) (ws : List ℕ) : Type 0 where
+  pub there : w < getD ws 0 0
+  pub sound : worker-damaged (cells-of ws) w ≡ false
+  pub runs : getD ws (16 + 16 * w + 0) 0 ≡ 0 → ⊥
+  pub known : getD ws (16 + 16 * w + 0) 0 ≤ 35
+
+abbrev pub busy-step : Cells → ℕ → Outcome
+busy-step m w =
+    unless ((inside-item (row-of (m (phase w))) && item-damaged m (m (item w))) ⇒ 2 ∷ []) (stepped (line-of-phase (m (phase w))) m w)
+
+-- Register can take a node where one is left.
+pub can-take-at : (ws : List ℕ) → Header ws → no-node (cells-of ws) ≡ false → Can-take (nodes-at ws) ws
+can-take-at ws h e = record {
+    header = omega arith;
+    nodes = h .long;
+    used = h .used;
+    given-back = h .given-back;
+    few-nodes = h .few-nodes;
+    some = λ g. leb-false (getD ws 2 0) (getD ws 7 0) (and-true (eqb (getD ws 8 0) 0) (leb (getD ws 2 0) (getD ws 7 0)) (eq-eqb (getD ws 8 0) 0 g) e) }

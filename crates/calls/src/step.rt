@@ -1,0 +1,75 @@
+// One step of a worker.
+use crate::dispatch::run_row;
+use definitions::{Answer, PhaseRow};
+use lines::endings::refuse;
+use tables::damage::{header_is_damaged, item_is_damaged, worker_is_damaged};
+use tables::fields::{HEADER_WORDS, ITEM, ITEMS_LIMIT, ITEM_WORDS, PHASE, WORKERS, WORKER_WORDS};
+use tables::phases::row_at;
+ghost use mathlib.Core.Path.{_≡_};
+ghost use mathlib.Core.Bool.{false, _&&_};
+ghost use Prim.Native.Nat.{ℕ, _<_};
+ghost use Rattle.definitions.specs.Cells.{cells-at, cells-of, items-at, nodes-at, item};
+ghost use Rattle.definitions.specs.Damage.{inside-item, item-damaged};
+ghost use Rattle.definitions.specs.Calls.{outcome, stepping};
+ghost use Rattle.definitions.specs.Calls.Call.{step};
+ghost use Rattle.definitions.specs.Promises.{Met, Done};
+ghost use Rattle.calls.specs.Dispatch.{Fit};
+ghost use Rattle.calls.specs.Facts.{Header, Busy, busy-step};
+
+// The item that a running operation is inside of, where it is inside of one.
+fn its_item_is_damaged(words: &[u32], items_at: usize, nodes_at: usize, w: usize, row: PhaseRow) -> bool
+    requires { ⌜ Fit «items_at» «nodes_at» w row (now words) ⌝ }
+    ensures { λ r. ⌜ r ≡ inside-item row && item-damaged (cells-at «items_at» «nodes_at» (now (words .entry))) (cells-at «items_at» «nodes_at» (now (words .entry)) (item w)) ⌝ }
+{
+    if row.operation == 3 {
+        return false;
+    }
+    if row.line == 0 {
+        return false;
+    }
+    let i = words[HEADER_WORDS + WORKER_WORDS * w + ITEM] as usize;
+    item_is_damaged(words, items_at, i)
+}
+
+// A step of a busy worker whose record is not damaged.
+fn step_busy(words: &mut [u32], w: usize) -> Answer
+    requires { ⌜ Header (now words) × Busy w (now words) ⌝ }
+    ensures { λ r. ⌜ Met (items-at (now (words .entry))) (nodes-at (now (words .entry))) (now (words .entry)) (busy-step (cells-of (now (words .entry))) w) r (now (words .exit)) ⌝ }
+{
+    let phase = words[HEADER_WORDS + WORKER_WORDS * w + PHASE];
+    let row = row_at(phase as usize);
+    let items_at = HEADER_WORDS + WORKER_WORDS * (words[WORKERS] as usize);
+    let nodes_at = items_at + ITEM_WORDS * (words[ITEMS_LIMIT] as usize);
+    if its_item_is_damaged(words, items_at, nodes_at, w, row) {
+        return refuse(2);
+    }
+    run_row(words, items_at, nodes_at, w, row)
+}
+
+// A step where the header is not damaged.
+fn step_sound(words: &mut [u32], worker: u32) -> Answer
+    requires { ⌜ Header (now words) ⌝ }
+    ensures { λ r. ⌜ Met (items-at (now (words .entry))) (nodes-at (now (words .entry))) (now (words .entry)) (stepping (cells-of (now (words .entry))) worker) r (now (words .exit)) ⌝ }
+{
+    if words[WORKERS] <= worker {
+        return refuse(3);
+    }
+    let w = worker as usize;
+    if worker_is_damaged(words, w) {
+        return refuse(2);
+    }
+    if words[HEADER_WORDS + WORKER_WORDS * w + PHASE] == 0 {
+        return refuse(5);
+    }
+    step_busy(words, w)
+}
+
+// A step of a worker, on any words.
+pub fn step(words: &mut [u32], worker: u32) -> Answer
+    ensures { λ r. ⌜ Done (outcome (now (words .entry)) (step worker)) r (now (words .exit)) ⌝ }
+{
+    if header_is_damaged(words) {
+        return refuse(2);
+    }
+    step_sound(words, worker)
+}
