@@ -6,12 +6,12 @@ use mathlib.Core.List.{List, [], _∷_}
 use lib.Dec.{ltb, leb, eqb}
 use lib.ListN.{getD, length}
 use native.Mathlib.Omega.{arith}
-use borrow.Author.Tests.{ltb-false, leb-false, eq-eqb, ne-eqb, eqb-true, eqb-false}
+use borrow.Author.Tests.{lt-ltb, le-ltb, ltb-false, leb-false, eq-eqb, ne-eqb, eqb-true, eqb-false}
 use Rattle.definitions.specs.declared.PhaseRow.{PhaseRow}
 use Rattle.definitions.specs.Cells.{Cells, cells-at, cells-of, items-at, nodes-at, needed, workers, items-limit, nodes-limit, projects, counter-limit, counter, items, used, given-back, phase, steps, item, old, new, handle, noted, node, new-node, seen}
 use Rattle.definitions.specs.Phases.{row-of}
 use Rattle.definitions.specs.Damage.{any-of, outside, sizes-outside, header-tests, header-damaged-at, header-damaged, bad-item, bad-value, bad-handle, bad-node, bad-time, inside-item, sum, total-tests, arguments-damaged, keeps-node, keeps-new-node, kept-tests, kept-damaged, running-damaged, worker-damaged, item-damaged}
-use Rattle.tables.specs.Ranges.{none-of, some-of}
+use Rattle.tables.specs.Ranges.{none-of, some-of, neither}
 use Rattle.definitions.specs.Answers.{Outcome, _⇒_, unless}
 use Rattle.definitions.specs.Lines.{line-of-phase, no-node}
 use Rattle.lines.specs.Stepped.{Ready, In-item, Has-node, Has-new-node, Small-sum, stepped, Can-take}
@@ -184,3 +184,19 @@ can-take-at ws h e = record {
     given-back = h .given-back;
     few-nodes = h .few-nodes;
     some = λ g. leb-false (getD ws 2 0) (getD ws 7 0) (and-true (eqb (getD ws 8 0) 0) (leb (getD ws 2 0) (getD ws 7 0)) (eq-eqb (getD ws 8 0) 0 g) e) }
+
+-- A worker's damage, by its phase: unknown, idle, or what its running record says.
+pub unknown-phase : (m : Cells) (w : ℕ) → 35 < m (phase w) → worker-damaged m w ≡ true
+unknown-phase m w h = rw (lt-ltb 35 (m (phase w)) h)
+
+pub idle-sound : (m : Cells) (w : ℕ) → m (phase w) ≡ 0 → worker-damaged m w ≡ false
+idle-sound m w h =
+    neither (ltb 35 (m (phase w))) (not (eqb (m (phase w)) 0) && running-damaged (row-of (m (phase w))) m w)
+    (le-ltb 35 (m (phase w)) (omega (arith, h))) (ap (λ (b : Bool). not b && running-damaged (row-of (m (phase w))) m w) (eq-eqb (m (phase w)) 0 h))
+
+pub running-tells : (m : Cells) (w : ℕ) {r : PhaseRow} {v t : Bool} → m (phase w) ≤ 35 → (m (phase w) ≡ 0 → ⊥) → r ≡ row-of (m (phase w))
+    → t ≡ running-damaged r m w → t ≡ v → worker-damaged m w ≡ v
+running-tells m w h busy e d v =
+    ap (λ (b : Bool). b || (not (eqb (m (phase w)) 0) && running-damaged (row-of (m (phase w))) m w)) (le-ltb 35 (m (phase w)) h)
+    ∙ ap (λ (b : Bool). not b && running-damaged (row-of (m (phase w))) m w) (ne-eqb (m (phase w)) 0 busy)
+    ∙ ap (λ (x : PhaseRow). running-damaged x m w) (sym e) ∙ sym d ∙ v

@@ -2,13 +2,15 @@
 use crate::dispatch::run_row;
 use definitions::{Answer, PhaseRow};
 use lines::endings::refuse;
-use tables::damage::{header_is_damaged, item_is_damaged, worker_is_damaged};
+use tables::damage::{header_is_damaged, item_is_damaged, running_is_damaged};
 use tables::fields::{HEADER_WORDS, ITEM, ITEMS_LIMIT, ITEM_WORDS, PHASE, WORKERS, WORKER_WORDS};
 use tables::phases::row_at;
 ghost use mathlib.Core.Path.{_≡_};
 ghost use mathlib.Core.Bool.{false, _&&_};
-ghost use Prim.Native.Nat.{ℕ, _<_};
+ghost use Prim.Native.Nat.{_+_, _*_};
+ghost use lib.ListN.{getD};
 ghost use Rattle.definitions.specs.Cells.{cells-at, cells-of, items-at, nodes-at, item};
+ghost use Rattle.definitions.specs.Phases.{row-of};
 ghost use Rattle.definitions.specs.Damage.{inside-item, item-damaged};
 ghost use Rattle.definitions.specs.Calls.{outcome, stepping};
 ghost use Rattle.definitions.specs.Calls.Call.{step};
@@ -31,13 +33,11 @@ fn its_item_is_damaged(words: &[u32], items_at: usize, nodes_at: usize, w: usize
     item_is_damaged(words, items_at, i)
 }
 
-// A step of a busy worker whose record is not damaged.
-fn step_busy(words: &mut [u32], w: usize) -> Answer
-    requires { ⌜ Header (now words) × Busy w (now words) ⌝ }
+// A step of a busy worker whose record is not damaged, at the row of its phase.
+fn step_busy(words: &mut [u32], w: usize, row: PhaseRow) -> Answer
+    requires { ⌜ Header (now words) × Busy w (now words) × (row ≡ row-of (getD (now words) (16 + 16 * w + 0) 0)) ⌝ }
     ensures { λ r. ⌜ Met (items-at (now (words .entry))) (nodes-at (now (words .entry))) (now (words .entry)) (busy-step (cells-of (now (words .entry))) w) r (now (words .exit)) ⌝ }
 {
-    let phase = words[HEADER_WORDS + WORKER_WORDS * w + PHASE];
-    let row = row_at(phase as usize);
     let items_at = HEADER_WORDS + WORKER_WORDS * (words[WORKERS] as usize);
     let nodes_at = items_at + ITEM_WORDS * (words[ITEMS_LIMIT] as usize);
     if its_item_is_damaged(words, items_at, nodes_at, w, row) {
@@ -46,7 +46,7 @@ fn step_busy(words: &mut [u32], w: usize) -> Answer
     run_row(words, items_at, nodes_at, w, row)
 }
 
-// A step where the header is not damaged.
+// A step where the header is not damaged. The table of phases is consulted once, for the damage test and for the line.
 fn step_sound(words: &mut [u32], worker: u32) -> Answer
     requires { ⌜ Header (now words) ⌝ }
     ensures { λ r. ⌜ Met (items-at (now (words .entry))) (nodes-at (now (words .entry))) (now (words .entry)) (stepping (cells-of (now (words .entry))) worker) r (now (words .exit)) ⌝ }
@@ -55,13 +55,18 @@ fn step_sound(words: &mut [u32], worker: u32) -> Answer
         return refuse(3);
     }
     let w = worker as usize;
-    if worker_is_damaged(words, w) {
+    let phase = words[HEADER_WORDS + WORKER_WORDS * w + PHASE];
+    if 35 < phase {
         return refuse(2);
     }
-    if words[HEADER_WORDS + WORKER_WORDS * w + PHASE] == 0 {
+    if phase == 0 {
         return refuse(5);
     }
-    step_busy(words, w)
+    let row = row_at(phase as usize);
+    if running_is_damaged(words, w, row) {
+        return refuse(2);
+    }
+    step_busy(words, w, row)
 }
 
 // A step of a worker, on any words.

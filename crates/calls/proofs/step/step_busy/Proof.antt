@@ -1,14 +1,10 @@
 use mathlib.Core.Path.{_≡_, refl, _∙_, ap, sym}
 use mathlib.Core.Bool.{true, false}
-use mathlib.Core.List.{[], _∷_, _++_}
-use Prim.Native.Nat.{ℕ, _+_, _*_, _-_, _<_, _≤_}
-use lib.ListN.{length, getD}
-use native.Mathlib.Omega.{arith}
-use borrow.Author.Tests.{eq-eqb, ne-eqb, lt-ltb, le-ltb, le-leb, lt-leb}
-use Rattle.definitions.specs.Cells.{cells-at, cells-of, items-at, nodes-at}
+use Prim.Native.Nat.{_+_, _*_}
+use lib.ListN.{getD}
+use borrow.Author.Tests.{eq-eqb, ne-eqb, le-leb, lt-leb}
+use Rattle.definitions.specs.Cells.{cells-of, items-at, nodes-at}
 use Rattle.lines.specs.Laws.{met-if, met-else, refuses}
-use Rattle.calls.specs.Refusals.{done}
-use Rattle.calls.specs.Facts.{header-sound, item-there, known-phase, can-take-at}
 use Rattle.calls.specs.Dispatch.{fit, row-operation, row-snapshot, line-tied}
 use borrow.Author.Needs.{needs}
 use Rattle.calls.proofs.step.step_busy.Statement.{statement}
@@ -18,35 +14,6 @@ use Rattle.calls.proofs.step.step_busy.Lts as lts
 use Rattle.calls.proofs.dispatch.run_row.Reads as run-row-reads
 use Rattle.calls.proofs.step.its_item_is_damaged.Reads as its-item-is-damaged-reads
 use Rattle.lines.proofs.endings.refuse.Reads as refuse-reads
-use Rattle.tables.proofs.phases.row_at.Reads as row-at-reads
-
--- src/step.rt:39:38
-mul-phase : tie.Need-mul-phase
-mul-phase c = search needs
-
--- src/step.rt:39:23
-add-phase : tie.Need-add-phase
-add-phase c = search needs
-
--- src/step.rt:39:23
-add-phase-2 : tie.Need-add-phase-2
-add-phase-2 c = search needs
-
--- src/step.rt:39:17
-mul-phase-2 : tie.Need-mul-phase-2
-mul-phase-2 c = search needs
-
--- src/step.rt:39:17
-slice-read-phase : tie.Need-slice-read-phase
-slice-read-phase c = search needs
-
--- src/step.rt:40:22
-cast-row-at : tie.Need-cast-row-at
-cast-row-at c = search needs
-
--- src/step.rt:40:9
-row-at-requires : tie.Need-row-at-requires
-row-at-requires c κs = search needs
 
 -- src/step.rt:41:51
 slice-read-items-at : tie.Need-slice-read-items-at
@@ -82,7 +49,7 @@ add-nodes-at c = search needs
 
 -- src/step.rt:43:8
 its-item-is-damaged-requires : tie.Need-its-item-is-damaged-requires
-its-item-is-damaged-requires c κs = let x = c .before .before .before .before .before .before .args in fit (x .words .now) (x .w) (c .before .before .before .before .before .before .pre .0) (c .before .before .before .before .before .before .pre .1) (c .before .before .before .row-at .ensures)
+its-item-is-damaged-requires c κs = let x = c .before .before .before .before .args in let h = c .before .before .before .before .pre in fit (x .words .now) (x .w) (h .0) (h .1) (h .2)
 
 -- src/step.rt:44:9
 refuse-requires : tie.Need-refuse-requires
@@ -94,33 +61,26 @@ same-length c = search needs
 
 -- src/step.rt:44:9
 returns : tie.Need-returns
-returns c = rw (← c .before .before .before .before .before .before .row-at .ensures) (met-if _ (sym (c .before .before .its-item-is-damaged .ensures) ∙ c .before .if1 .taken) (refuses 2 (c .refuse .ensures)))
+returns c = rw (← c .before .before .before .before .before .before .before .pre .2) (met-if _ (sym (c .before .before .its-item-is-damaged .ensures) ∙ c .before .if1 .taken) (refuses 2 (c .refuse .ensures)))
 
 -- src/step.rt:46:5
 run-row-requires : tie.Need-run-row-requires
-run-row-requires c κs = let x = c .before .before .before .before .before .before .before .before .before .args in let h = c .before .before .before .before .before .before .before .before .before .pre in let e = c .before .before .before .before .before .before .row-at .ensures in
-    (fit (x .words .now) (x .w) (h .0) (h .1) e, row-operation (x .words .now) (x .w) (h .1) e, row-snapshot (x .words .now) (x .w) (h .1) e)
+run-row-requires c κs = let x = c .before .before .before .before .before .before .before .args in let h = c .before .before .before .before .before .before .before .pre in
+    (fit (x .words .now) (x .w) (h .0) (h .1) (h .2), row-operation (x .words .now) (x .w) (h .1) (h .2), row-snapshot (x .words .now) (x .w) (h .1) (h .2))
 
--- src/step.rt:35:1
+-- src/step.rt:37:1
 same-length-2 : tie.Need-same-length-2
 same-length-2 c = search needs
 
--- src/step.rt:35:1
+-- src/step.rt:37:1
 returns-2 : tie.Need-returns-2
-returns-2 c = let x = c .before .before .before .before .before .before .before .before .before .before .before .before .args in
-    rw (line-tied (getD (x .words .now) (16 + 16 * x .w + 0) 0), ← c .before .before .before .before .before .before .before .before .before .row-at .ensures) (met-else _ (sym (c .before .before .before .before .before .its-item-is-damaged .ensures) ∙ c .before .before .before .before .if1 .left) (c .before .before .run-row .ensures))
+returns-2 c = let x = c .before .before .before .before .before .before .before .before .before .before .args in
+    rw (line-tied (getD (x .words .now) (16 + 16 * x .w + 0) 0), ← c .before .before .before .before .before .before .before .before .before .before .pre .2) (met-else _ (sym (c .before .before .before .before .before .its-item-is-damaged .ensures) ∙ c .before .before .before .before .if1 .left) (c .before .before .run-row .ensures))
 
 pub step-busy-spec : {M : Type 1} → statement M
 step-busy-spec =
     tie.close
     (tie.spec
-    mul-phase
-    add-phase
-    add-phase-2
-    mul-phase-2
-    slice-read-phase
-    cast-row-at
-    row-at-requires
     slice-read-items-at
     cast-items-at
     mul-items-at
