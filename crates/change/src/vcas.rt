@@ -123,7 +123,7 @@ pub fn line_50(words: &mut [u32], items_at: usize, nodes_at: usize, w: usize) ->
     }
     nodes::write(&mut words[nodes_at..], n, OLDER, back);
     words[GIVEN_BACK] = given + 1;
-    go_on(words, w, phase + 1, steps)
+    go_on(words, w, phase + 1, steps) // to line 51
 }
 
 // Line 52: the lost change is answered 0.

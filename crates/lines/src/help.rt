@@ -28,7 +28,7 @@ pub fn fetch_head(words: &mut [u32], items_at: usize, nodes_at: usize, w: usize)
     let steps = words[at + STEPS];
     let i = words[at + ITEM] as usize;
     words[at + NODE] = words[items_at + ITEM_WORDS * i + HEAD];
-    go_on(words, w, phase + 1, steps)
+    go_on(words, w, phase + 1, steps) // to line 20
 }
 
 // Line 20: where the node's stamp is valid, help ends here.
@@ -76,7 +76,7 @@ pub fn line_22(words: &mut [u32], items_at: usize, nodes_at: usize, w: usize) ->
     if bad_stamp(stamp, words[COUNTER]) {
         return refuse(2);
     }
-    if stamp == TBD {
+    if stamp == TBD { // the compare-and-swap
         nodes::write(&mut words[nodes_at..], n, STAMP, seen);
         return go_on(words, w, phase + 1, steps);
     }

@@ -1,1 +1,2 @@
 pub mod Fifteen
+pub mod MayAnswer

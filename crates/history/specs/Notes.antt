@@ -1,0 +1,81 @@
+-- What a call did, noted by one who sees the words before it, the call and its answer. A run is told by its notes.
+use Prim.Native.Nat.{ℕ, _+_}
+use mathlib.Core.Bool.{Bool, true, false, cond, not, _||_, _&&_}
+use mathlib.Core.List.{List, [], _∷_}
+use lib.Dec.{eqb}
+use Rattle.definitions.specs.declared.Answer.{Answer}
+use Rattle.definitions.specs.declared.PhaseRow.{PhaseRow}
+use Rattle.definitions.specs.Cells.{Cells, cells-of, counter, phase, item, node, new-node, seen, head, value, stamp}
+use Rattle.definitions.specs.Phases.{row-of, total-operation}
+use Rattle.definitions.specs.Damage.{TBD, any-of}
+use Rattle.definitions.specs.Calls.{Call, outcome}
+use Rattle.history.specs.Definition1.{Operation, register, v-read, v-cas, take-snapshot, read-snapshot, total}
+
+-- What a line did that others can see, or saw of others:
+pub data Deed : Type 0 where
+  fetches : (i : ℕ) (valid : Bool) → Deed     -- lines 32, 37, 41 and 51: the head of item i, whose stamp is valid, or TBD (a total's are left out)
+  publishes : (i v : ℕ) → Deed                -- line 46, where it succeeds: a node of value v becomes the head of item i
+  stamps : (i v : ℕ) → Deed                   -- line 22, where it succeeds: a node of item i, of value v, has its stamp
+  moves : (h : ℕ) → Deed                      -- line 6, where it succeeds: the counter leaves h
+  nothing : Deed
+
+pub data Ending : Type 0 where
+  goes-on : Ending
+  answers : (x : ℕ) → Ending
+  ends-with : (number : ℕ) → Ending
+
+pub data Note : Type 0 where
+  refused : Note                                      -- the call was refused, and changed nothing
+  registered : (i v s : ℕ) → Note
+  started : (w : ℕ) → Operation → Note
+  stepped : (w line : ℕ) → Deed → Ending → Note       -- worker w executed a line
+
+-- ---- reading the words
+
+abbrev pub fetches-head : PhaseRow → Bool
+fetches-head r = any-of (eqb (r .line) 32 ∷ eqb (r .line) 37 ∷ eqb (r .line) 41 ∷ eqb (r .line) 51 ∷ []) && not (eqb (r .operation) total-operation)
+
+abbrev pub deed-at : PhaseRow → Cells → ℕ → Deed
+deed-at r m w =
+    cond (fetches-head r) (fetches (m (item w)) (not (eqb (m (stamp (m (head (m (item w)))))) TBD)))
+    (cond (eqb (r .line) 46 && eqb (m (head (m (item w)))) (m (node w))) (publishes (m (item w)) (m (value (m (new-node w)))))
+    (cond (eqb (r .line) 22 && eqb (m (stamp (m (node w)))) TBD) (stamps (m (item w)) (m (value (m (node w)))))
+    (cond (eqb (r .line) 6 && eqb (m counter) (m (seen w))) (moves (m counter)) nothing)))
+
+-- a step with its answer: finished, running, or ended with number 11 or 12; any other answer is a refusal
+abbrev pub step-note : (w line : ℕ) → Deed → Answer → Note
+step-note w line d a =
+    cond (eqb (a .code) 0) (stepped w line d (answers (a .value)))
+    (cond (eqb (a .code) 1) (stepped w line d goes-on)
+    (cond (eqb (a .code) 27) (stepped w line d (ends-with 11))
+    (cond (eqb (a .code) 28) (stepped w line d (ends-with 12)) refused)))
+
+-- what an accepted call is noted as
+abbrev pub if-accepted : Answer → Note → Note
+if-accepted a x = cond (eqb (a .code) 2) x refused
+
+-- a call whose worker, if it steps, would execute a line and do a deed. In a run every make is refused.
+abbrev pub note-of : Call → Answer → (line : ℕ → ℕ) → (deed : ℕ → Deed) → Note
+note-of (Call.make p m n q c) a line deed = refused
+note-of (Call.register v s) a line deed = if-accepted a (registered (a .value) v s)
+note-of (Call.v-read w i) a line deed = if-accepted a (started w (v-read i))
+note-of (Call.v-cas w i old new) a line deed = if-accepted a (started w (v-cas i old new))
+note-of (Call.take-snapshot w) a line deed = if-accepted a (started w take-snapshot)
+note-of (Call.read-snapshot w i h) a line deed = if-accepted a (started w (read-snapshot i h))
+note-of (Call.total w q h) a line deed = if-accepted a (started w (total q h))
+note-of (Call.step w) a line deed = step-note w (line w) (deed w) a
+
+unfoldable pub note : List ℕ → Call → Note
+note ws c =
+    let m = cells-of ws in
+    note-of c (outcome ws c .answer) (λ w. row-of (m (phase w)) .line) (λ w. deed-at (row-of (m (phase w))) m w)
+
+-- ---- runs: the calls and the notes, the newest first
+
+unfoldable pub words-after : List ℕ → List Call → List ℕ
+words-after ws [] = ws
+words-after ws (c ∷ cs) = outcome (words-after ws cs) c .words
+
+unfoldable pub notes : List ℕ → List Call → List Note
+notes ws [] = []
+notes ws (c ∷ cs) = note (words-after ws cs) c ∷ notes ws cs

@@ -1,0 +1,190 @@
+-- What is promised of a run, told by its notes: the instants of document 01, the one order of demand 2, and the exact reads of demand 3.
+use mathlib.Core.Path.{_≡_}
+use mathlib.Core.Logic.{_⊎_}
+use mathlib.Core.Bool.{Bool, true, false, cond}
+use mathlib.Core.List.{List, [], _∷_, _++_}
+use Prim.Native.Nat.{ℕ, zero, suc, _+_, _≤_, _<_}
+use lib.ListN.{length, getD}
+use Rattle.history.specs.Definition1.{Operation, register, v-read, v-cas, take-snapshot, read-snapshot, total, Act, Legal}
+use Rattle.history.specs.Notes.{Deed, fetches, publishes, stamps, moves, nothing, Ending, Note, stepped}
+use Rattle.history.specs.Ledger.{Fate, Ledger, ledger, found-TBD, read-lines}
+use Rattle.history.specs.Effects.{Effect, birth, snapshot, effects, value-at, changed-between, count-if, total-at}
+
+-- ---- events
+
+-- note x was made after the notes past, so at the time length past
+abbrev pub Noted : Note → List Note → List Note → Type 0
+Noted x past [] = ⊥
+Noted x past (y ∷ l) = ((x ≡ y) × (past ≡ l)) ⊎ Noted x past l
+
+-- operation o executed a line at time t, and did d
+pub record Executed (run : List Note) (o line : ℕ) (d : Deed) (t : ℕ) : Type 0 where
+  pub past : List Note
+  pub w : ℕ
+  pub e : Ending
+  pub noted : Noted (stepped w line d e) past run
+  pub its : ledger past .current w ≡ o
+  pub at : length past ≡ t
+
+-- the first to publish a node of item i after f did so at p
+pub record FirstPublish (run : List Note) (i f p : ℕ) : Type 0 where
+  pub o : ℕ
+  pub v : ℕ
+  pub published : Executed run o 46 (publishes i v) p
+  pub after : f < p
+  pub first : (o' v' p' : ℕ) → Executed run o' 46 (publishes i v') p' → f < p' → p ≤ p'
+
+-- the first line 22 to stamp a node of item i after p was at s, and line 21 of the same operation, its own step before that, at r
+pub record FirstStamp (run : List Note) (i p r s : ℕ) : Type 0 where
+  pub o : ℕ
+  pub v : ℕ
+  pub stored : Executed run o 22 (stamps i v) s
+  pub after : p < s
+  pub first : (o' v' s' : ℕ) → Executed run o' 22 (stamps i v') s' → p < s' → s ≤ s'
+  pub read : Executed run o 21 nothing r
+  pub before : r < s
+  pub own-next : (line : ℕ) (d : Deed) (t : ℕ) → Executed run o line d t → r < t → s ≤ t
+
+-- ---- when things take effect
+
+-- when the head was fetched, if its stamp was valid, else when it became valid
+pub data HeadInstant (run : List Note) (o i line τ : ℕ) : Type 0 where
+  at-fetch : Executed run o line (fetches i true) τ → HeadInstant run o i line τ
+  at-stamp : (f r : ℕ) → Executed run o line (fetches i false) f → FirstStamp run i f r τ → HeadInstant run o i line τ
+
+-- at the line 21 whose line 22 stamped its node
+pub record ChangeInstant (run : List Note) (o i τ : ℕ) : Type 0 where
+  pub v : ℕ
+  pub p : ℕ
+  pub s : ℕ
+  pub published : Executed run o 46 (publishes i v) p
+  pub stamped : FirstStamp run i p τ s
+
+-- operation o lost to the change of item i that was published at p: the first since its line 41
+pub record LostTo (run : List Note) (o i p : ℕ) : Type 0 where
+  pub valid : Bool
+  pub f : ℕ
+  pub fetched : Executed run o 41 (fetches i valid) f
+  pub published : FirstPublish run i f p
+
+-- at the instant of the vCAS that first changed the head since its line 41
+pub record LossInstant (run : List Note) (o i τ : ℕ) : Type 0 where
+  pub p : ℕ
+  pub s : ℕ
+  pub lost : LostTo run o i p
+  pub stamped : FirstStamp run i p τ s
+
+-- by the line at which a vCAS ends
+pub data CasInstant (run : List Note) (o i line τ : ℕ) : Type 0 where
+  ends-43 : line ≡ 43 → HeadInstant run o i 41 τ → CasInstant run o i line τ
+  ends-48 : line ≡ 48 → ChangeInstant run o i τ → CasInstant run o i line τ
+  ends-52 : line ≡ 52 → LossInstant run o i τ → CasInstant run o i line τ
+
+abbrev pub Instant : List Note → ℕ → Fate → Operation → ℕ → Type 0
+Instant run o f (register i v s) τ = τ ≡ o
+Instant run o f (v-read i) τ = HeadInstant run o i 37 τ
+Instant run o f (v-cas i old new) τ = CasInstant run o i (getD (f .lines) 0 0) τ
+Instant run o f take-snapshot τ = (q : ℕ) × Executed run q 6 (moves (f .answer)) τ
+Instant run o f (read-snapshot i h) τ = τ ≡ f .ended-at
+Instant run o f (total q h) τ = τ ≡ f .ended-at
+
+-- ---- one order
+
+pub data In (o : ℕ) : List ℕ → Type 0 where
+  first : {q : ℕ} {l : List ℕ} → o ≡ q → In o (q ∷ l)
+  later : {q : ℕ} {l : List ℕ} → In o l → In o (q ∷ l)
+
+abbrev pub Once : List ℕ → Type 0
+Once [] = Unit {0}
+Once (o ∷ l) = (In o l → ⊥) × Once l
+
+-- the newest first: times do not rise
+abbrev pub Falling : (ℕ → ℕ) → List ℕ → Type 0
+Falling time [] = Unit {0}
+Falling time (o ∷ l) = ((q : ℕ) → In q l → time q ≤ time o) × Falling time l
+
+abbrev pub acts : (ℕ → Operation) → (ℕ → ℕ) → List ℕ → List Act
+acts operation answer [] = []
+acts operation answer (o ∷ l) = record { operation = operation o; answer = answer o } ∷ acts operation answer l
+
+-- a vCAS that has not answered, and whose node has its stamp
+pub record Pending (run : List Note) (o τ : ℕ) : Type 0 where
+  pub unfinished : ledger run .fate o .done ≡ false
+  pub i : ℕ
+  pub old : ℕ
+  pub new : ℕ
+  pub asked : ledger run .fate o .operation ≡ v-cas i old new
+  pub changed : ChangeInstant run o i τ
+
+-- after its start and not after its answer; a register in its own call
+pub data Within (f : Fate) (o τ : ℕ) : Type 0 where
+  inside : o < τ → (f .done ≡ true → τ ≤ f .ended-at) → Within f o τ
+  in-call : (i v s : ℕ) → f .operation ≡ register i v s → τ ≡ o → f .ended-at ≡ o → Within f o τ
+
+-- going back from the newest of the list to c, there are only operations that lost to the change published at p
+abbrev pub Behind : List Note → (c i p : ℕ) → List ℕ → Type 0
+Behind run c i p [] = ⊥
+Behind run c i p (q ∷ l) = (q ≡ c) ⊎ (LostTo run q i p × Behind run c i p l)
+
+-- in the order, o comes immediately after c: between them are only others that lost to that same change
+abbrev pub RightAfter : List Note → (c i p o : ℕ) → List ℕ → Type 0
+RightAfter run c i p o [] = ⊥
+RightAfter run c i p o (q ∷ l) = ((q ≡ o) × Behind run c i p l) ⊎ RightAfter run c i p o l
+
+-- a vCAS that ended at 52 comes immediately after the vCAS c that first changed the head since its line 41
+pub record Immediately (run : List Note) (o i : ℕ) (order : List ℕ) : Type 0 where
+  pub c : ℕ
+  pub v : ℕ
+  pub p : ℕ
+  pub lost : LostTo run o i p
+  pub changed : Executed run c 46 (publishes i v) p
+  pub after : RightAfter run c i p o order
+
+-- Demand 2. The order lists operations, the newest first; each has its time and its answer.
+pub record OneOrder (run : List Note) : Type 0 where
+  pub order : List ℕ
+  pub time : ℕ → ℕ
+  pub answer : ℕ → ℕ
+  pub once : Once order
+  pub all : (o : ℕ) → o < length run → ledger run .fate o .done ≡ true → In o order
+  pub only : (o : ℕ) → In o order → (ledger run .fate o .done ≡ true) ⊎ Pending run o (time o)
+  pub within : (o : ℕ) → In o order → Within (ledger run .fate o) o (time o)
+  pub falling : Falling time order
+  pub instants : (o : ℕ) → o < length run → ledger run .fate o .done ≡ true → Instant run o (ledger run .fate o) (ledger run .fate o .operation) (time o)
+  pub immediately : (o i old new : ℕ) → ledger run .fate o .operation ≡ v-cas i old new → ledger run .fate o .done ≡ true → getD (ledger run .fate o .lines) 0 0 ≡ 52 → Immediately run o i order
+  pub answered : (o : ℕ) → In o order → ledger run .fate o .done ≡ true → ledger run .fate o .answer ≡ answer o
+  pub legal : Legal (acts (λ o. ledger run .fate o .operation) answer order)
+
+-- ---- exact reads
+
+abbrev pub Among : Effect → List Effect → Type 0
+Among x [] = ⊥
+Among x (y ∷ l) = (x ≡ y) ⊎ Among x l
+
+-- Demand 3. left: when the counter left h; f: when its line 32 was executed. It answers the value then, and its steps are k + 5 where line 20
+-- found TBD (line 21 is among the lines executed), else k + 3: k counts the changes with effect after left whose line 46 was before f.
+pub record ExactRead (run : List Note) (o i h : ℕ) : Type 0 where
+  pub left : ℕ
+  pub taken : Among (record { time = left; what = snapshot h }) (effects run)
+  pub answer : ledger run .fate o .answer ≡ value-at (effects run) i left
+  pub f : ℕ
+  pub valid : Bool
+  pub fetched : Executed run o 32 (fetches i valid) f
+  pub steps : length (ledger run .fate o .lines) ≡ count-if (changed-between i left f) (effects run) + cond (found-TBD (ledger run .fate o .lines)) 5 3
+
+-- The lines of a total, item by item: one for an item born after the counter left the handle, else those of a read whose line 32 was executed at f.
+pub data TotalLines (all : List Effect) (left o ended : ℕ) : ℕ → List ℕ → Type 0 where
+  no-item : TotalLines all left o ended 0 []
+  born-later : {i : ℕ} {l : List ℕ} (t v s : ℕ) → Among (record { time = t; what = birth i v s }) all → left < t → TotalLines all left o ended i l → TotalLines all left o ended (suc i) (32 ∷ l)
+  read : {i : ℕ} {l : List ℕ} (tbd : Bool) (f : ℕ) → o < f → f ≤ ended → TotalLines all left o ended i l →
+    TotalLines all left o ended (suc i) (read-lines tbd (count-if (changed-between i left f) all) ++ l)
+
+-- A total answers the sum over all items born when the counter left h whose project then was q; its steps are those of its items, and the closing one.
+pub record ExactTotal (run : List Note) (o q h : ℕ) : Type 0 where
+  pub left : ℕ
+  pub taken : Among (record { time = left; what = snapshot h }) (effects run)
+  pub answer : ledger run .fate o .answer ≡ total-at (effects run) q left
+  pub items : ℕ
+  pub lines : List ℕ
+  pub each : TotalLines (effects run) left o (ledger run .fate o .ended-at) items lines
+  pub closing : ledger run .fate o .lines ≡ 0 ∷ lines

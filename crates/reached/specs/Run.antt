@@ -1,0 +1,270 @@
+-- Every run of the words, from an accepted make, is a run of the machine: the same answers, and words that are the image of its state.
+use Prim.Native.Nat.{ℕ, _<_, _≤_}
+use mathlib.Core.Bool.{Bool, true, false, _||_}
+use mathlib.Core.List.{List, [], _∷_}
+use mathlib.Core.Logic.{_≢_, inl}
+use mathlib.Core.Path.{_≡_, refl, ap, sym, _∙_, subst}
+use native.Mathlib.Omega.{arith}
+use lib.Dec.{ltb}
+use lib.ListN.{length, getD}
+use borrow.Author.Tests.{ltb-false}
+use Rattle.definitions.specs.Cells.{needed, Cell, Cells, workers, items-limit, nodes-limit, projects, counter-limit, counter, items, used, given-back, phase, value, older, stamp, cells-of}
+use Rattle.definitions.specs.Answers.{refusal}
+use Rattle.definitions.specs.Damage.{any-of, outside, sizes-outside, header-damaged}
+use Rattle.definitions.specs.Calls.{Call, Result, outcome, leaving}
+use Rattle.cells.specs.Stands.{Stands, place-below}
+use Rattle.cells.specs.Update.{after, after-size}
+use Rattle.cells.specs.Words.{Sized, Left, leaves, shows-own}
+use Rattle.cells.specs.Made.{comes-to, is-make, outcome-comes, Fresh, made, made-sized, made-fresh, Accepted, make-accepts, make-refuses}
+use Rattle.history.specs.Notes.{words-after}
+use Rattle.history.specs.Machine.{Limits, Catalogue, fresh, tick, move, call, reply, after-calls}
+use Rattle.history.specs.StepCount.{steps-bound}
+use Rattle.reached.specs.Parts.{shared-of}
+use Rattle.reached.specs.Sound.{Header-fits, header-sound}
+use Rattle.reached.specs.Image.{unused}
+use Rattle.reached.specs.ImageEffects.{first-in}
+use Rattle.reached.specs.Whole.{Few-steps, Limits-fit, Catalogue-image, Call-image, Agree, image-agree}
+use Rattle.reached.specs.Step.{step-image}
+use Rattle.reached.specs.Start.{v-read-image, v-cas-image, take-snapshot-image, read-snapshot-image, total-image}
+use Rattle.reached.specs.Register.{register-call}
+
+-- The arguments of a call are numbers of their types. No refusal tests a register's size, which is any 32-bit number.
+abbrev pub Typed : Call → Type 0
+Typed (Call.make p m n q c) = Unit {0}
+Typed (Call.register v s) = s < 4294967296
+Typed (Call.v-read w i) = Unit {0}
+Typed (Call.v-cas w i old new) = Unit {0}
+Typed (Call.take-snapshot w) = Unit {0}
+Typed (Call.read-snapshot w i h) = Unit {0}
+Typed (Call.total w q h) = Unit {0}
+Typed (Call.step w) = Unit {0}
+
+-- A call of a run is not an accepted make.
+pub record Run-call (ws : List ℕ) (x : Call) : Type 0 where
+  pub typed : Typed x
+  pub no-make : is-make x ≡ true → outcome ws x .answer .code ≢ 2
+
+-- A run on words: calls, the newest first.
+abbrev pub Run : List ℕ → List Call → Type 0
+Run ws [] = Unit {0}
+Run ws (x ∷ cs) = Run ws cs × Run-call (words-after ws cs) x
+
+-- The words are the image of the machine's state.
+pub record Words-image (ws : List ℕ) (s : Catalogue) : Type 0 where
+  pub sized : Sized (s .memory .limits .workers) (s .memory .limits .items) (s .memory .limits .nodes) ws
+  pub image : Catalogue-image (cells-of ws) s
+
+pub header-is-sound : (ws : List ℕ) (s : Catalogue) → Words-image ws s → header-damaged ws ≡ false
+header-is-sound ws s U = header-sound (length ws) _ _ _ _ _ _ _ _ _ fits
+  where
+    Z : Catalogue-image (cells-of ws) s
+    Z = U .image
+    fits : Header-fits (length ws) (cells-of ws workers) (cells-of ws items-limit) (cells-of ws nodes-limit) (cells-of ws projects)
+        (cells-of ws counter-limit) (cells-of ws counter) (cells-of ws items) (cells-of ws used) (cells-of ws given-back)
+    fits = record {
+      workers-in = subst (λ (x : ℕ). (1 ≤ x) × (x ≤ 64)) (sym (Z .header .workers-are)) (Z .limits-fit .workers-in);
+      items-in = subst (λ (x : ℕ). (1 ≤ x) × (x ≤ 256)) (sym (Z .header .items-are)) (Z .limits-fit .items-in);
+      nodes-in = subst (λ (x : ℕ). (1 ≤ x) × (x ≤ 4096)) (sym (Z .header .nodes-are)) (Z .limits-fit .nodes-in);
+      projects-in = subst (λ (x : ℕ). (1 ≤ x) × (x ≤ 256)) (sym (Z .header .projects-are)) (Z .limits-fit .projects-in);
+      limit-in = subst (λ (x : ℕ). (1 ≤ x) × (x ≤ 4294967294)) (sym (Z .header .limit-is)) (Z .limits-fit .counter-in);
+      counter-in = omega (arith, Z .shared .counter-is, Z .well .counter-in, Z .header .limit-is);
+      held-in = omega (arith, Z .shared .items-are, Z .well .items-in, Z .header .items-are);
+      used-in = omega (arith, Z .shared .used-are, Z .shared .used-in, Z .header .nodes-are);
+      given-back-in = first-in 0 0 0 (s .memory) (Z .well) (shared-of (cells-of ws)) (Z .own) (Z .shared);
+      enough = omega (arith, U .sized .enough, Z .header .workers-are, Z .header .items-are, Z .header .nodes-are) }
+
+-- Any call but make, on the cells.
+call-image : (f : Cells) (s : Catalogue) → Catalogue-image f s → Few-steps (s .worker) → (x : Call) → Typed x → is-make x ≡ false
+    → Call-image f s x (comes-to f x)
+call-image f s Z F (Call.make p m n q c) t e = absurd (let z : _≡_ {A = ℕ} 0 1 = cc in omega arith)
+call-image f s Z F (Call.register v z) t e = register-call f s Z v z t
+call-image f s Z F (Call.v-read w i) t e = v-read-image f s Z F w i
+call-image f s Z F (Call.v-cas w i old new) t e = v-cas-image f s Z F w i old new
+call-image f s Z F (Call.take-snapshot w) t e = take-snapshot-image f s Z F w
+call-image f s Z F (Call.read-snapshot w i h) t e = read-snapshot-image f s Z F w i h
+call-image f s Z F (Call.total w q h) t e = total-image f s Z F w q h
+call-image f s Z F (Call.step w) t e = step-image f s Z F w
+
+-- One call on words that are an image.
+pub record Called (ws : List ℕ) (s : Catalogue) (x : Call) : Type 0 where
+  pub answer-is : outcome ws x .answer ≡ reply s x
+  pub words-are : Words-image (outcome ws x .words) (call s x)
+  pub as-many : length (outcome ws x .words) ≡ length ws
+
+-- Equal sizes.
+module _ (p m n p' m' n' : ℕ) (e : p' ≡ p) (g : m' ≡ m) (h : n' ≡ n) where
+  stands-same : (c : Cell) → Stands p' m' n' c → Stands p m n c
+  stands-same c l = subst (λ (x : ℕ). Stands x m n c) e (subst (λ (x : ℕ). Stands p' x n c) g (subst (λ (x : ℕ). Stands p' m' x c) h l))
+
+  sized-same : (ws : List ℕ) → Sized p m n ws → Sized p' m' n' ws
+  sized-same ws z = record { workers-are = z .workers-are ∙ sym e; items-are = z .items-are ∙ sym g; nodes-are = z .nodes-are ∙ sym h;
+      enough = omega (arith, z .enough) }
+
+other-call : (ws : List ℕ) (s : Catalogue) → Words-image ws s → Few-steps (s .worker) → (x : Call) → Typed x → is-make x ≡ false → Called ws s x
+other-call ws s U F x t e =
+    record {
+      answer-is = ap (λ (r : Result). r .answer) is ∙ C .answer-is;
+      words-are = subst (λ (r : Result). Words-image (r .words) (call s x)) (sym is) later;
+      as-many = ap (λ (r : Result). length (r .words)) is ∙ L .as-many }
+  where
+    is : outcome ws x ≡ leaving ws (comes-to (cells-of ws) x)
+    is = outcome-comes ws x e (header-is-sound ws s U)
+    C : Call-image (cells-of ws) s x (comes-to (cells-of ws) x)
+    C = call-image (cells-of ws) s (U .image) F x t e
+    L : Left (s .memory .limits .workers) (s .memory .limits .items) (s .memory .limits .nodes) ws (leaving ws (comes-to (cells-of ws) x) .words)
+        (after (cells-of ws) (comes-to (cells-of ws) x .writes))
+    L = leaves (s .memory .limits .workers) (s .memory .limits .items) (s .memory .limits .nodes) ws (U .sized) (comes-to (cells-of ws) x) (C .proper)
+    size : (c : Cell) → c .kind < 5 → after (cells-of ws) (comes-to (cells-of ws) x .writes) c ≡ cells-of ws c
+    size c h = after-size (s .memory .limits .workers) (s .memory .limits .items) (s .memory .limits .nodes) (cells-of ws)
+        (comes-to (cells-of ws) x .writes) (C .proper) c h
+    workers-same : call s x .memory .limits .workers ≡ s .memory .limits .workers
+    workers-same = sym (C .image .header .workers-are) ∙ size workers (omega arith) ∙ U .image .header .workers-are
+    items-same : call s x .memory .limits .items ≡ s .memory .limits .items
+    items-same = sym (C .image .header .items-are) ∙ size items-limit (omega arith) ∙ U .image .header .items-are
+    nodes-same : call s x .memory .limits .nodes ≡ s .memory .limits .nodes
+    nodes-same = sym (C .image .header .nodes-are) ∙ size nodes-limit (omega arith) ∙ U .image .header .nodes-are
+    agrees : Agree (call s x .memory .limits) (after (cells-of ws) (comes-to (cells-of ws) x .writes))
+        (cells-of (leaving ws (comes-to (cells-of ws) x) .words))
+    agrees c h = L .shows c (stands-same _ _ _ _ _ _ workers-same items-same nodes-same c h)
+    later : Words-image (leaving ws (comes-to (cells-of ws) x) .words) (call s x)
+    later = record {
+      sized = sized-same _ _ _ _ _ _ workers-same items-same nodes-same (leaving ws (comes-to (cells-of ws) x) .words) (L .sized);
+      image = image-agree (after (cells-of ws) (comes-to (cells-of ws) x .writes)) (cells-of (leaving ws (comes-to (cells-of ws) x) .words))
+          (call s x) agrees (C .image) }
+
+-- A refused make changes nothing, and the machine refuses it too.
+make-call : (ws : List ℕ) (s : Catalogue) → Words-image ws s → (p m n q c : ℕ) → Run-call ws (Call.make p m n q c) → Called ws s (Call.make p m n q c)
+unfolding call reply move tick
+make-call ws s U p m n q c t =
+    record {
+      answer-is = ap (λ (r : Result). r .answer) is;
+      words-are = subst (λ (r : Result). Words-image (r .words) (call s (Call.make p m n q c))) (sym is) (record { sized = U .sized; image = U .image });
+      as-many = ap (λ (r : Result). length (r .words)) is }
+  where
+    is : outcome ws (Call.make p m n q c) ≡ record { answer = refusal 1 0; words = ws }
+    is = make-refuses ws p m n q c (t .no-make refl)
+
+pub every-call : (ws : List ℕ) (s : Catalogue) → Words-image ws s → Few-steps (s .worker) → (x : Call) → Run-call ws x → Called ws s x
+every-call ws s U F (Call.make p m n q c) t = make-call ws s U p m n q c t
+every-call ws s U F (Call.register v z) t = other-call ws s U F (Call.register v z) (t .typed) refl
+every-call ws s U F (Call.v-read w i) t = other-call ws s U F (Call.v-read w i) tt refl
+every-call ws s U F (Call.v-cas w i old new) t = other-call ws s U F (Call.v-cas w i old new) tt refl
+every-call ws s U F (Call.take-snapshot w) t = other-call ws s U F (Call.take-snapshot w) tt refl
+every-call ws s U F (Call.read-snapshot w i h) t = other-call ws s U F (Call.read-snapshot w i h) tt refl
+every-call ws s U F (Call.total w q h) t = other-call ws s U F (Call.total w q h) tt refl
+every-call ws s U F (Call.step w) t = other-call ws s U F (Call.step w) tt refl
+
+-- Other words that hold the same catalogue, the needed words being equal, are the image of the same state: what comes after does not tell them apart.
+pub same-needed : (ws ws' : List ℕ) (s : Catalogue) → Words-image ws s
+    → needed (s .memory .limits .workers) (s .memory .limits .items) (s .memory .limits .nodes) ≤ length ws'
+    → ((k : ℕ) → k < needed (s .memory .limits .workers) (s .memory .limits .items) (s .memory .limits .nodes) → getD ws' k 0 ≡ getD ws k 0)
+        → Words-image ws' s
+same-needed ws ws' s U enough same = record { sized = sized'; image = image-agree (cells-of ws) (cells-of ws') s agrees (U .image) }
+  where
+    sized' : Sized (s .memory .limits .workers) (s .memory .limits .items) (s .memory .limits .nodes) ws'
+    sized' = record {
+      workers-are = same 0 (omega arith) ∙ U .sized .workers-are; items-are = same 1 (omega arith) ∙ U .sized .items-are;
+      nodes-are = same 2 (omega arith) ∙ U .sized .nodes-are; enough = enough }
+    agrees : Agree (s .memory .limits) (cells-of ws) (cells-of ws')
+    agrees c h =
+        sym (shows-own _ _ _ ws' sized' c h) ∙ same _ (place-below (s .memory .limits .workers) (s .memory .limits .items) (s .memory .limits .nodes) c h)
+            ∙ shows-own _ _ _ ws (U .sized) c h
+
+-- ---- from an accepted make
+
+abbrev pub limits-of : (p m n q c : ℕ) → Limits
+limits-of p m n q c = record { workers = p; items = m; nodes = n; projects = q; counter = c }
+
+-- The ranges that make tests.
+first-false : (a b : Bool) → a || b ≡ false → a ≡ false
+first-false true b e = absurd (let z : _≡_ {A = ℕ} 0 1 = cc in omega arith)
+first-false false b e = refl
+second-false : (a b : Bool) → a || b ≡ false → b ≡ false
+second-false true b e = absurd (let z : _≡_ {A = ℕ} 0 1 = cc in omega arith)
+second-false false b e = e
+
+in-range : (low high x : ℕ) → outside low high x ≡ false → (low ≤ x) × (x ≤ high)
+in-range low high x e = (ltb-false x low (first-false (ltb x low) (ltb high x) e), ltb-false high x (second-false (ltb x low) (ltb high x) e))
+
+limits-fit : (p m n q c : ℕ) → any-of (sizes-outside p m n q c) ≡ false → Limits-fit (limits-of p m n q c)
+limits-fit p m n q c e = record {
+  workers-in = in-range 1 64 p (first-false _ (outside 1 256 m) e₂); items-in = in-range 1 256 m (second-false (outside 1 64 p) _ e₂);
+      nodes-in = in-range 1 4096 n (second-false (outside 1 64 p || outside 1 256 m) _ e₃);
+  projects-in = in-range 1 256 q (second-false ((outside 1 64 p || outside 1 256 m) || outside 1 4096 n) _ e₄);
+      counter-in = in-range 1 4294967294 c (second-false (((outside 1 64 p || outside 1 256 m) || outside 1 4096 n) || outside 1 256 q) _ e) }
+  where
+    e₄ : ((outside 1 64 p || outside 1 256 m) || outside 1 4096 n) || outside 1 256 q ≡ false
+    e₄ = first-false _ (outside 1 4294967294 c) e
+    e₃ : (outside 1 64 p || outside 1 256 m) || outside 1 4096 n ≡ false
+    e₃ = first-false _ (outside 1 256 q) e₄
+    e₂ : outside 1 64 p || outside 1 256 m ≡ false
+    e₂ = first-false _ (outside 1 4096 n) e₃
+
+-- What make leaves is the image of the fresh machine.
+fresh-image : (p m n q c : ℕ) (f : Cells) → Limits-fit (limits-of p m n q c) → Fresh p m n q c f → Catalogue-image f (fresh (limits-of p m n q c))
+unfolding fresh
+fresh-image p m n q c f fit F = record {
+  own = λ y. unused; limits-fit = fit;
+  header = record { workers-are = F .workers-are; items-are = F .items-are; nodes-are = F .nodes-are; projects-are = F .projects-are;
+      limit-is = F .limit-is };
+  shared = record {
+    counter-is = zero-at counter (omega arith) (omega arith); items-are = zero-at items (omega arith) (omega arith);
+        used-are = zero-at used (omega arith) (omega arith); used-in = omega arith;
+    chain = zero-at given-back (omega arith) (omega arith); head-is = λ i l. absurd (omega arith); birth-is = λ i l. absurd (omega arith);
+        size-is = λ i l. absurd (omega arith);
+    value-is = λ i j l. absurd (omega arith); valid-stamp = λ i j l. absurd (omega arith); no-stamp = λ i j l. absurd (omega arith);
+        older-is = λ i j l. absurd (omega arith);
+    oldest = λ i l. absurd (omega arith); owner = λ i j l. absurd (omega arith); rest = λ y l. refl };
+  nodes = record {
+    value-in = λ y l. omega (arith, zero-at (value y) l (omega arith), fit .projects-in .0);
+    older-in = λ y l. omega (arith, zero-at (older y) l (omega arith));
+    stamp-in = λ y l. inl (omega (arith, zero-at (stamp y) l (omega arith))) };
+  well = record { counter-in = omega arith; items-in = omega arith; item-well = λ i l. absurd (omega arith) };
+  worker-is = λ w l. zero-at (phase w) l (omega arith); known = λ w l. tt; holds = λ w l. tt;
+  homes = record { owned = λ y l. absurd (omega arith); version-home = λ y i j g. absurd (let z : _≡_ {A = ℕ} 0 1 = cc in omega arith);
+      waits-home = λ y d g. absurd (let z : _≡_ {A = ℕ} 0 1 = cc in omega arith) };
+  held-home = λ y w g. absurd (let z : _≡_ {A = ℕ} 0 1 = cc in omega arith) }
+  where
+    zero-at : (d : Cell) → Stands p m n d → 5 ≤ d .kind → f d ≡ 0
+    zero-at d h l = F .rest-zero d h l
+
+module _ (ws : List ℕ) (p m n q c : ℕ) (accepted : outcome ws (Call.make p m n q c) .answer .code ≡ 2) where
+  -- the words on which make was just accepted
+  abbrev pub start : List ℕ
+  start = outcome ws (Call.make p m n q c) .words
+  abbrev pub machine : List Call → Catalogue
+  machine cs = after-calls (limits-of p m n q c) cs
+
+  accepted-make : Accepted ws p m n q c
+  accepted-make = make-accepts ws p m n q c accepted
+
+  -- the limits are in document 01's ranges
+  pub in-limits : Limits-fit (limits-of p m n q c)
+  in-limits = limits-fit p m n q c (accepted-make .in-range)
+
+  start-image : Words-image start (fresh (limits-of p m n q c))
+  unfolding fresh
+  start-image = subst (λ (x : List ℕ). Words-image x (fresh (limits-of p m n q c))) (sym (accepted-make .leaves)) (record {
+    sized = made-sized ws p m n q c;
+    image = fresh-image p m n q c (cells-of (made ws p m n q c)) in-limits (made-fresh ws p m n q c) })
+
+  -- no operation of the machine has taken too many steps
+  pub few : (cs : List Call) → Few-steps (machine cs .worker)
+  few cs = steps-bound (limits-of p m n q c) (in-limits .items-in .1) (in-limits .nodes-in .1) cs
+
+  -- After any run the words are the image of the machine's state after the same calls,
+  pub reached-image : (cs : List Call) → Run start cs → Words-image (words-after start cs) (machine cs)
+  unfolding words-after after-calls
+  reached-image [] r = start-image
+  reached-image (x ∷ cs) r = every-call (words-after start cs) (machine cs) (reached-image cs (r .0)) (few cs) x (r .1) .words-are
+
+  -- every answer is the machine's,
+  pub answers-agree : (cs : List Call) → Run start cs → (x : Call) → Run-call (words-after start cs) x
+      → outcome (words-after start cs) x .answer ≡ reply (machine cs) x
+  answers-agree cs r x t = every-call (words-after start cs) (machine cs) (reached-image cs r) (few cs) x t .answer-is
+
+  -- and the lent words stay as many.
+  pub as-many-words : (cs : List Call) → Run start cs → length (words-after start cs) ≡ length start
+  unfolding words-after
+  as-many-words [] r = refl
+  as-many-words (x ∷ cs) r = every-call (words-after start cs) (machine cs) (reached-image cs (r .0)) (few cs) x (r .1) .as-many ∙ as-many-words cs (r .0)

@@ -1,0 +1,129 @@
+/*
+ * A page for a new host: a catalogue is made, document 01's listing is run through the exported calls and its answers printed, and then
+ * the calls are made on words that are no catalogue at all, where each must answer its fixed number and change no word.
+ */
+#include "goravesha.h"
+
+#include <stdio.h>
+#include <stdlib.h>
+#include <string.h>
+
+static uint32_t words[GORAVESHA_WORDS(64, 256, 4096)];
+static uint32_t kept[GORAVESHA_WORDS(64, 256, 4096)];
+static unsigned wrong;
+
+static void print(uint32_t code, goravesha_answer *answer) {
+  printf("%02x%016llx%04llx\n", (unsigned)code, (unsigned long long)(*answer)[0], (unsigned long long)(*answer)[1]);
+}
+
+static void listing(size_t count) {
+  goravesha_answer answer;
+  print(goravesha_make(words, count, 2, 2, 8, 4, 16, &answer), &answer);
+  print(goravesha_register(words, count, 1, 100, &answer), &answer);
+  print(goravesha_start_take_snapshot(words, count, 0, &answer), &answer);
+  for (int i = 0; i < 2; i++) print(goravesha_step(words, count, 0, &answer), &answer);
+  print(goravesha_start_vcas(words, count, 1, 0, 1, 2, &answer), &answer);
+  for (int i = 0; i < 5; i++) print(goravesha_step(words, count, 1, &answer), &answer);
+  print(goravesha_start_read_snapshot(words, count, 0, 0, 0, &answer), &answer);
+  for (int i = 0; i < 6; i++) print(goravesha_step(words, count, 0, &answer), &answer);
+}
+
+enum { CALLS = 7 };
+
+/* Every call but make, with arguments that would be good. */
+static uint32_t call(int which, size_t count, goravesha_answer *answer) {
+  switch (which) {
+    case 0: return goravesha_register(words, count, 1, 100, answer);
+    case 1: return goravesha_start_vread(words, count, 0, 0, answer);
+    case 2: return goravesha_start_vcas(words, count, 0, 0, 1, 2, answer);
+    case 3: return goravesha_start_take_snapshot(words, count, 0, answer);
+    case 4: return goravesha_start_read_snapshot(words, count, 0, 0, 0, answer);
+    case 5: return goravesha_start_total(words, count, 0, 1, 0, answer);
+    default: return goravesha_step(words, count, 0, answer);
+  }
+}
+
+/* A call must answer this code, value 0, steps 0, and change no word. */
+static void expect(const char *what, int which, size_t count, uint32_t code) {
+  goravesha_answer answer = {7, 7, 7, 7};
+  memcpy(kept, words, sizeof words);
+  uint32_t got = call(which, count, &answer);
+  if (got != code || answer[0] || answer[1] || answer[2] || answer[3] || memcmp(kept, words, sizeof words)) {
+    fprintf(stderr, "page: %s: call %d with %zu words answered %u (expected %u), or changed a word\n", what, which, count, got, code);
+    wrong++;
+  }
+}
+
+static void expect_make(size_t count, uint32_t p, uint32_t m, uint32_t n, uint32_t q, uint32_t c, uint32_t code) {
+  goravesha_answer answer = {7, 7, 7, 7};
+  memcpy(kept, words, sizeof words);
+  uint32_t got = goravesha_make(words, count, p, m, n, q, c, &answer);
+  int same = !memcmp(kept, words, sizeof words);
+  if (got != code || answer[0] || answer[1] || (code != GORAVESHA_ACCEPTED && !same)) {
+    fprintf(stderr, "page: make %u %u %u %u %u with %zu words answered %u (expected %u), or changed a word\n", p, m, n, q, c, count, got, code);
+    wrong++;
+  }
+}
+
+static void fresh(size_t count) {
+  goravesha_answer answer;
+  memset(words, 0, sizeof words);
+  goravesha_make(words, count, 2, 2, 8, 4, 16, &answer);
+}
+
+int main(void) {
+  const size_t count = GORAVESHA_WORDS(2, 2, 8);
+  const uint32_t damaged = GORAVESHA_REFUSED + 2;
+  listing(count);
+
+  memset(words, 0xff, sizeof words);
+  for (int which = 0; which < CALLS; which++) expect("all ones", which, count, damaged);
+  memset(words, 0, sizeof words);
+  for (int which = 0; which < CALLS; which++) expect("all zero", which, count, damaged);
+  fresh(count);
+  for (size_t few = 0; few <= 16; few++) {
+    for (int which = 0; which < CALLS; which++) expect("too short", which, few, damaged);
+    expect_make(few, 1, 1, 1, 1, 1, GORAVESHA_REFUSED + 1);
+  }
+  expect_make(count - 1, 2, 2, 8, 4, 16, GORAVESHA_REFUSED + 1);
+
+  /* Each header word at 0, at its limit and one past it: sizes with their own limits, the rest with the limits that the header gives. */
+  static const uint32_t limit[9] = {64, 256, 4096, 256, 4294967294u, 16, 2, 8, 0};
+  static const int zero_is_damage[9] = {1, 1, 1, 1, 1, 0, 0, 0, 0};
+  /* What each call answers on a fresh catalogue of no items: register accepted, 6, 6, accepted, 6, 8, 5. */
+  for (int word = 0; word < 9; word++) {
+    for (int which = 0; which < CALLS; which++) {
+      fresh(count);
+      words[word] = limit[word] + 1;
+      expect("past the limit", which, count, damaged);
+      fresh(count);
+      words[word] = 0;
+      if (zero_is_damage[word]) expect("zero", which, count, damaged);
+      /* At its limit a size asks for more words than are lent here, where it counts words; the others are no damage. */
+      fresh(count);
+      words[word] = limit[word];
+      if (word < 3) expect("at the limit", which, count, damaged);
+      else if (which == 1) expect("at the limit", which, count, word == 6 ? damaged : GORAVESHA_REFUSED + 6);
+      else if (which == 6) expect("at the limit", which, count, GORAVESHA_REFUSED + 5);
+    }
+  }
+
+  /* The sizes that make takes, and those one past them. */
+  const size_t all = sizeof words / sizeof words[0];
+  static const uint32_t most[5] = {64, 256, 4096, 256, 4294967294u};
+  for (int which = 0; which < 5; which++) {
+    uint32_t size[5] = {1, 1, 1, 1, 1};
+    size[which] = 0;
+    expect_make(all, size[0], size[1], size[2], size[3], size[4], GORAVESHA_REFUSED + 1);
+    size[which] = most[which] + 1;
+    expect_make(all, size[0], size[1], size[2], size[3], size[4], GORAVESHA_REFUSED + 1);
+    size[which] = most[which];
+    expect_make(all, size[0], size[1], size[2], size[3], size[4], GORAVESHA_ACCEPTED);
+  }
+
+  if (wrong) {
+    fprintf(stderr, "page: %u answers were wrong\n", wrong);
+    return EXIT_FAILURE;
+  }
+  return EXIT_SUCCESS;
+}
