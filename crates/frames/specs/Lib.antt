@@ -1,0 +1,6 @@
+pub mod Lines
+pub mod LineLaws
+pub mod Frames
+pub mod FrameLaws
+pub mod AnswerLines
+pub mod AnswerLaws

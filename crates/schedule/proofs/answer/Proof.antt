@@ -1,0 +1,68 @@
+use mathlib.Core.Path.{sym}
+use native.Mathlib.Omega.{arith}
+use lib.Seq.{length-take-le}
+use Prim.Native.Nat.{_*_, _≤_}
+use lib.ListN.{length, take, length-take}
+use Rattle.text.specs.PieceLaws.{written-fits}
+use borrow.Author.Needs.{needs}
+use Rattle.schedule.proofs.answer.Statement.{statement}
+use Rattle.schedule.proofs.answer.Tie as tie
+use Rattle.schedule.proofs.answer.Reads as reads
+use Rattle.schedule.proofs.answer.Lts as lts
+use Rattle.schedule.proofs.write_answers.Reads as write-answers-reads
+use Rattle.text.proofs.answer_piece.Reads as answer-piece-reads
+
+-- src/main.rt:43:9
+answer-piece-requires : tie.Need-answer-piece-requires
+answer-piece-requires c κs = search needs
+
+-- src/main.rt:45:33
+slice-reshare-prefix-write-answers : tie.Need-slice-reshare-prefix-write-answers
+slice-reshare-prefix-write-answers c =
+    let a = c .before .before .before .before .before .before .before .before .before .before .before .before .before .args in
+    let r : 23 * length (take (a .count) (a .bytes .now)) ≤ length (a .out .now) = simp length-take (omega (arith, c .before .before .before .before .before .before .before .before .before .before .before .before .before .pre)) in
+    let f = written-fits _ _ _ _ _ _ _ (c .before .before .before .before .before .before .answer-piece .ensures) r in
+    let k = c .before .before .before .before .before .before .answer-piece .kept .1 .1 .1 .0 in
+    omega arith
+
+-- src/main.rt:45:33
+slice-aggregate-write-answers : tie.Need-slice-aggregate-write-answers
+slice-aggregate-write-answers c =
+    let a = c .before .before .before .before .before .before .before .before .before .before .before .before .before .before .args in
+    let r : 23 * length (take (a .count) (a .bytes .now)) ≤ length (a .out .now) = simp length-take (omega (arith, c .before .before .before .before .before .before .before .before .before .before .before .before .before .before .pre)) in
+    let f = written-fits _ _ _ _ _ _ _ (c .before .before .before .before .before .before .before .answer-piece .ensures) r in
+    let k = c .before .before .before .before .before .before .before .answer-piece .kept .1 .1 .1 .0 in
+    sym (length-take-le _ _ (omega arith))
+
+-- src/main.rt:45:9
+write-answers-requires : tie.Need-write-answers-requires
+write-answers-requires c κs = search needs
+
+-- src/main.rt:38:1
+same-length : tie.Need-same-length
+same-length c = search needs
+
+-- src/main.rt:38:1
+same-length-2 : tie.Need-same-length-2
+same-length-2 c = search needs
+
+-- src/main.rt:38:1
+same-length-3 : tie.Need-same-length-3
+same-length-3 c = search needs
+
+-- src/main.rt:38:1
+returns : tie.Need-returns
+returns c = search needs
+
+pub answer-spec : {M : Type 1} → statement M
+answer-spec =
+    tie.close
+    (tie.spec
+    answer-piece-requires
+    slice-reshare-prefix-write-answers
+    slice-aggregate-write-answers
+    write-answers-requires
+    same-length
+    same-length-2
+    same-length-3
+    returns)

@@ -1,0 +1,109 @@
+// The schedule program: frames from standard input, one answer line for each on standard output, in constant memory.
+use libc::STDERR_FILENO;
+use libc::STDIN_FILENO;
+use libc::STDOUT_FILENO;
+ghost use mathlib.Core.Path.{_≡_};
+ghost use Prim.Native.Nat.{_≤_};
+ghost use lib.ListN.{length, take};
+ghost use Rattle.text.specs.Feeding.{Piece, Last};
+ghost use Rattle.text.specs.Replies.{lent};
+ghost use Rattle.schedule.specs.Turns.{Turned};
+ghost use Rattle.schedule.specs.Sessions.{Ran};
+
+// What a turn came to: how many bytes wait for their line feed, how many bytes of answers were written, and whether the input goes on.
+struct Turn {
+    held: usize,
+    written: usize,
+    goes_on: bool,
+}
+
+// All of the answers are written, or the program says that they are not.
+fn write_answers(answers: &[u8]) -> bool {
+    if io::write_all(STDOUT_FILENO, answers) {
+        return true;
+    }
+    io::write_all(STDERR_FILENO, b"schedule: standard output cannot be written\n");
+    false
+}
+
+// At the end of the input a last line may lack its line feed.
+fn finish(bytes: &[u8], words: &mut [u32], out: &mut [u8]) -> usize
+    requires { ⌜ length (now out) ≡ 376832 ⌝ }
+    ensures { λ r. ⌜ Last (now (bytes .entry)) (now (words .entry)) (now (out .entry)) r (now (words .exit)) (now (out .exit)) ⌝ }
+{
+    let written = text::answer_last(bytes, words, out);
+    write_answers(&out[..written]);
+    written
+}
+
+// The whole lines of what is held and of what was read are answered, and the answers written.
+fn answer(bytes: &mut [u8], count: usize, words: &mut [u32], out: &mut [u8]) -> Turn
+    requires { ⌜ (length (now bytes) ≡ 16384) × (length (now out) ≡ 376832) × (count ≤ 16384) ⌝ }
+    ensures { λ r. ⌜ Piece (take count (now (bytes .entry))) (now (words .entry)) (now (out .entry)) (record { held = r .held; written = r .written })
+        (now (bytes .exit)) (now (words .exit)) (now (out .exit)) ⌝ }
+{
+    let kept = text::answer_piece(bytes, count, words, out);
+    let written = kept.written;
+    let goes_on = write_answers(&out[..written]);
+    Turn { held: kept.held, written, goes_on }
+}
+
+// One read after what is held.
+fn take_turn(bytes: &mut [u8], held: usize, words: &mut [u32], out: &mut [u8]) -> Turn
+    requires { ⌜ (length (now bytes) ≡ 16384) × (length (now out) ≡ 376832) × (held ≤ 65) ⌝ }
+    ensures { λ r. ⌜ (r .held ≤ 65)
+        × Turned (take held (now (bytes .entry))) (now (words .entry)) (now (out .entry)) r (now (bytes .exit)) (now (words .exit)) (now (out .exit)) ⌝ }
+{
+    let got = libc::read(STDIN_FILENO, &mut bytes[held..]);
+    if got < 0 {
+        io::write_all(STDERR_FILENO, b"schedule: standard input cannot be read\n");
+    }
+    let count = io::count(got, &bytes[held..]);
+    if count == 0 {
+        let written = finish(&bytes[..held], words, out);
+        return Turn { held: 0, written, goes_on: false };
+    }
+    answer(bytes, held + count, words, out)
+}
+
+// Turns until the input ends or the output cannot be written.
+fn run(bytes: &mut [u8], words: &mut [u32], out: &mut [u8])
+    requires { ⌜ (length (now bytes) ≡ 16384) × (length (now out) ≡ 376832) ⌝ }
+    ensures { λ _. ⌜ Ran (now (words .entry)) (now (words .exit)) ⌝ }
+{
+    let mut held = 0;
+    let mut turns = u64::MAX;
+    while turns > 0 {
+        let done = take_turn(bytes, held, words, out);
+        if !done.goes_on {
+            return;
+        }
+        held = done.held;
+        turns -= 1;
+    }
+}
+
+fn text_buffer() -> [u8; 16384]
+    ensures { λ r. ⌜ 16384 ≡ length r ⌝ }
+{
+    [0; 16384]
+}
+
+fn out_buffer() -> [u8; 376832]
+    ensures { λ r. ⌜ 376832 ≡ length r ⌝ }
+{
+    [0; 376832]
+}
+
+fn lent_words() -> [u32; 16384]
+    ensures { λ r. ⌜ (r ≡ lent) × (16384 ≡ length r) ⌝ }
+{
+    [0; 16384]
+}
+
+fn main() {
+    let mut bytes = text_buffer();
+    let mut words = lent_words();
+    let mut out = out_buffer();
+    run(&mut bytes, &mut words, &mut out);
+}

@@ -1,0 +1,26 @@
+#!/bin/bash
+# The speed of schedule against the C program beside this script, on one generated schedule, in one run: the two take turns, and the least
+# time of each counts. usage: host/bench/run.sh [BYTES] [ROUNDS]
+cd "$(dirname "$0")/../.." || exit 2
+bytes=${1:-50000000}
+rounds=${2:-9}
+work=$(mktemp -d) || exit 2
+trap 'rm -rf "$work"' EXIT
+cc=${CC:-gcc}
+"$cc" -O2 -o "$work/generate" host/bench/generate.c && "$cc" -O2 -o "$work/schedule_c" host/bench/schedule.c || exit 2
+"$work/generate" "$bytes" > "$work/in"
+target/bin/schedule < "$work/in" > "$work/out"
+"$work/schedule_c" < "$work/in" | cmp - "$work/out" || { echo "bench: the two programs print different text"; exit 1; }
+python3 - "$work" "$rounds" <<'P'
+import subprocess, sys, time
+work, rounds = sys.argv[1], int(sys.argv[2])
+programs = {"schedule": "target/bin/schedule", "C": work + "/schedule_c"}
+least = {name: 1e9 for name in programs}
+for _ in range(rounds):
+    for name, path in programs.items():
+        with open(work + "/in", "rb") as text, open("/dev/null", "wb") as nowhere:
+            start = time.perf_counter()
+            subprocess.run([path], stdin=text, stdout=nowhere, check=True)
+            least[name] = min(least[name], time.perf_counter() - start)
+print("bench: schedule %.3f s, C %.3f s, ratio %.2f" % (least["schedule"], least["C"], least["schedule"] / least["C"]))
+P

@@ -1,0 +1,51 @@
+#!/bin/bash
+# How schedule reads and writes: empty input, no last line feed, one byte at a time, a line of a megabyte, an output that cannot be written.
+# usage: tests/streams.sh [PROGRAM]
+cd "$(dirname "$0")/.." || exit 2
+program=${1:-target/bin/schedule}
+bad=1d00000000000000000000
+failed=0
+expect() { # NAME GOT WANTED
+    if [ "$2" != "$3" ]; then
+        echo "streams: $1: got '${2:0:200}', wanted '${3:0:200}'"
+        failed=$((failed + 1))
+    fi
+}
+sum() { cksum | cut -d' ' -f1,2; }
+slowly() { # one byte a write
+    python3 -c 'import os, sys
+for byte in sys.stdin.buffer.read(): os.write(1, bytes([byte]))'
+}
+spread() { # pieces of many sizes
+    python3 -c 'import os, sys
+text = sys.stdin.buffer.read()
+at, size = 0, 1
+while at < len(text):
+    os.write(1, text[at:at + size]); at += size; size = size * 7 % 9973 + 1'
+}
+
+expect "empty input" "$("$program" < /dev/null)" ""
+expect "a blank line" "$(printf '\n' | "$program")" "$bad"
+expect "no last line feed" "$(printf '080000' | "$program")" "1200000000000000000000"
+expect "a final line feed" "$(printf '080000\n' | "$program")" "1200000000000000000000"
+
+sample=tests/vectors/ordinary_00
+expect "one byte at a time" "$(slowly < $sample.in | "$program" | sum)" "$(sum < $sample.out)"
+sample=tests/vectors/totals_00
+expect "pieces of many sizes" "$(spread < $sample.in | "$program" | sum)" "$(sum < $sample.out)"
+
+long() { head -c "$1" /dev/zero | tr '\0' '0'; }
+expect "a line of a megabyte" "$({ long 1048576; printf '\n080000\n'; } | "$program" | tr '\n' ' ')" "$bad 1200000000000000000000 "
+expect "a megabyte and no line feed" "$(long 1048576 | "$program")" "$bad"
+for n in 63 64 65 66 16383 16384 16385 32768; do
+    expect "a line of $n" "$({ long $n; printf '\n'; long $n; } | "$program" | tr '\n' ' ')" "$bad $bad "
+done
+expect "many blank lines" "$(yes '' | head -n 100000 | "$program" | sort | uniq -c | tr -s ' ')" " 100000 $bad"
+
+if [ -e /dev/full ]; then
+    expect "a full disk" "$("$program" < $sample.in 2>&1 > /dev/full)" "schedule: standard output cannot be written"
+fi
+expect "a closed output" "$("$program" < $sample.in 2>&1 >&-)" "schedule: standard output cannot be written"
+expect "an input that cannot be read" "$("$program" < . 2>&1)" "schedule: standard input cannot be read"
+
+if [ "$failed" = 0 ]; then echo "streams: all passed"; else echo "streams: $failed failed"; exit 1; fi
