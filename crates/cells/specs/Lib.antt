@@ -6,3 +6,5 @@ pub mod WellFormed
 pub mod Spares
 pub mod Untouched
 pub mod IllFormed
+pub mod Depends
+pub mod CellsRun

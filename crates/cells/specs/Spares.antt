@@ -6,15 +6,15 @@ use mathlib.Core.Path.{_≡_, refl, ap, subst}
 use native.Mathlib.Omega.{arith}
 use lib.Dec.{eqb, ltb, leb}
 use lib.ListN.{length, getD}
-use borrow.Author.Tests.{leb-false, ltb-false, eqb-true, eqb-false, ne-eqb}
+use borrow.Author.Tests.{leb-false, ltb-false, eqb-false}
 use Rattle.definitions.specs.declared.PhaseRow.{PhaseRow}
-use Rattle.definitions.specs.Cells.{Cells, Assignment, _≔_, workers, items-limit, nodes-limit, counter-limit, counter, items, used, given-back, phase, steps, item, old, new, handle, node, new-node, seen, head, birth, size, value, older, stamp, record-of, cleared}
+use Rattle.definitions.specs.Cells.{project, handle, noted, Cells, Assignment, _≔_, workers, items-limit, nodes-limit, counter-limit, counter, items, used, given-back, phase, steps, item, old, new, node, new-node, seen, head, birth, size, value, older, stamp, record-of, cleared}
 use Rattle.definitions.specs.Answers.{Outcome, Refusal, unless, _⇒_, goes-on, accepts}
 use Rattle.definitions.specs.Phases.{row, row-of, table, closing-phase, total-start, v-read-start, v-cas-start, take-snapshot-start, read-snapshot-start}
-use Rattle.definitions.specs.Damage.{TBD, any-of, any-from, bad-item, bad-node, bad-value, bad-time, keeps-node, keeps-new-node, arguments-damaged, kept-damaged, running-damaged, worker-damaged, bad-handle, inside-item, item-damaged, node-damaged}
+use Rattle.definitions.specs.Damage.{kept-tests, sum, inside-item, bad-handle, TBD, any-of, any-from, bad-item, bad-value, keeps-node, keeps-new-node, arguments-damaged, kept-damaged, running-damaged, worker-damaged, item-damaged, node-damaged}
 use Rattle.definitions.specs.Lines.{Line, line, lines, line-of-phase, idle, fetch, help-20, help-21, help-22, fetch-head, line-20, line-21, line-22, line-39, line-43, line-45, line-46, line-48, line-50, line-52, line-5, line-6, line-34, total-32, total-34, closing, no-node, node-to-take, taking, too-new, to-older}
 use Rattle.definitions.specs.Calls.{Call, no-worker, busy, sound-item, registering, starting-v-read, starting-v-cas, starting-take-snapshot, starting-read-snapshot, starting-total, stepping}
-use Rattle.cells.specs.Update.{Proper}
+use Rattle.cells.specs.Update.{Proper, record-proper}
 use Rattle.cells.specs.Made.{comes-to}
 
 -- To prove P of a choice: P of each side, with what the test says.
@@ -23,10 +23,10 @@ by-test P true f g = f refl
 by-test P false f g = g refl
 
 -- What a test that failed says of its parts.
-first-false : (a b : Bool) → a || b ≡ false → a ≡ false
+pub first-false : (a b : Bool) → a || b ≡ false → a ≡ false
 first-false true b e = absurd (let z : _≡_ {A = ℕ} 0 1 = cc in omega arith)
 first-false false b e = refl
-second-false : (a b : Bool) → a || b ≡ false → b ≡ false
+pub second-false : (a b : Bool) → a || b ≡ false → b ≡ false
 second-false true b e = absurd (let z : _≡_ {A = ℕ} 0 1 = cc in omega arith)
 second-false false b e = e
 
@@ -44,38 +44,47 @@ none-at [] k e = refl
 none-at (t ∷ ts) zero e = any-head t ts e
 none-at (t ∷ ts) (suc k) e = none-at ts k (any-tail t ts e)
 
-where-asked : (a b : Bool) → a && b ≡ false → a ≡ true → b ≡ false
+pub where-asked : (a b : Bool) → a && b ≡ false → a ≡ true → b ≡ false
 where-asked true b e t = e
 where-asked false b e t = absurd (let z : _≡_ {A = ℕ} 0 1 = cc in omega arith)
 
-second-choice : (a b x y z : Bool) → a ≡ false → b ≡ true → cond a x (cond b y z) ≡ false → y ≡ false
-second-choice true b x y z d t e = absurd (let q : _≡_ {A = ℕ} 0 1 = cc in omega arith)
-second-choice false true x y z d t e = e
-second-choice false false x y z d t e = absurd (let q : _≡_ {A = ℕ} 0 1 = cc in omega arith)
-
--- What a running record that is not damaged says of the cells that its line may write.
+-- What a running record that is not damaged says of the cells that its line may read or write.
 pub record Kept-in (r : PhaseRow) (f : Cells) (w : ℕ) : Type 0 where
   pub node-in : keeps-node r ≡ true → f (node w) < f used
   pub new-node-in : keeps-new-node r ≡ true → f (new-node w) < f used
-  pub item-in : eqb (r .operation) 2 ≡ true → f (item w) < f items
+  pub item-in : inside-item r ≡ true → f (item w) < f items
 
-kept-in : (r : PhaseRow) (f : Cells) (w : ℕ) → running-damaged r f w ≡ false → Kept-in r f w
-unfolding running-damaged kept-damaged arguments-damaged
-kept-in r f w e = record {
-  node-in = λ t. leb-false _ _ (where-asked (keeps-node r) _ (none-at kept 0 kept-false) t);
-  new-node-in = λ t. leb-false _ _ (where-asked (keeps-new-node r) _ (none-at kept 1 kept-false) t);
-  item-in = λ t. leb-false _ _ (none-at changes 0 (second-choice (eqb (r .operation) 1) (eqb (r .operation) 2) _ _ _
-      (ne-eqb (r .operation) 1 (λ d. absurd (omega (arith, eqb-true (r .operation) 2 t)))) t arguments-false)) }
+arguments-in : (r : PhaseRow) (f : Cells) (w : ℕ) → arguments-damaged r f w ≡ false → inside-item r ≡ true → f (item w) < f items
+unfolding arguments-damaged
+arguments-in r f w e t = at (eqb (r .operation) 1) (eqb (r .operation) 2) (eqb (r .operation) 3) (eqb (r .operation) 4) e t
   where
-    kept : List Bool
-    kept = (keeps-node r && bad-node f (f (node w))) ∷ (keeps-new-node r && bad-node f (f (new-node w))) ∷ (eqb (r .line) 22 && bad-time f (f (seen w)))
-        ∷ (eqb (r .line) 6 && leb (f counter-limit) (f (seen w))) ∷ []
     changes : List Bool
     changes = bad-item f (f (item w)) ∷ bad-value f (f (old w)) ∷ bad-value f (f (new w)) ∷ []
-    arguments-false : arguments-damaged r f w ≡ false
-    arguments-false = none-at (ltb 5120 (f (steps w)) ∷ arguments-damaged r f w ∷ kept-damaged r f w ∷ []) 1 e
-    kept-false : kept-damaged r f w ≡ false
-    kept-false = none-at (ltb 5120 (f (steps w)) ∷ arguments-damaged r f w ∷ kept-damaged r f w ∷ []) 2 e
+    reads : List Bool
+    reads = bad-item f (f (item w)) ∷ bad-handle f (f (handle w)) ∷ []
+    totals : List Bool
+    totals = bad-value f (f (project w)) ∷ bad-handle f (f (handle w)) ∷ ltb (f items) (f (noted w)) ∷ ltb (f (noted w)) (f (item w))
+        ∷ (inside-item r && leb (f (noted w)) (f (item w))) ∷ ltb 1099511627776 (sum f w) ∷ []
+    at : (a b c d : Bool)
+        → cond a (bad-item f (f (item w))) (cond b (any-of changes) (cond c false (cond d (any-of reads) (any-of totals)))) ≡ false
+        → not c && not (eqb (r .line) 0) ≡ true → f (item w) < f items
+    at true b c d e u = leb-false _ _ e
+    at false true c d e u = leb-false _ _ (none-at changes 0 e)
+    at false false true d e u = absurd (let z : _≡_ {A = ℕ} 0 1 = cc in omega arith)
+    at false false false true e u = leb-false _ _ (none-at reads 0 e)
+    at false false false false e u =
+        omega (arith, ltb-false (f items) (f (noted w)) (none-at totals 2 e),
+            leb-false (f (noted w)) (f (item w)) (where-asked (inside-item r) _ (none-at totals 4 e) t))
+
+pub kept-in : (r : PhaseRow) (f : Cells) (w : ℕ) → running-damaged r f w ≡ false → Kept-in r f w
+unfolding running-damaged kept-damaged
+kept-in r f w e = record {
+  node-in = λ t. leb-false _ _ (where-asked (keeps-node r) _ (none-at (kept-tests r f w) 0 (none-at parts 2 e)) t);
+  new-node-in = λ t. leb-false _ _ (where-asked (keeps-new-node r) _ (none-at (kept-tests r f w) 1 (none-at parts 2 e)) t);
+  item-in = arguments-in r f w (none-at parts 1 e) }
+  where
+    parts : List Bool
+    parts = ltb 5120 (f (steps w)) ∷ arguments-damaged r f w ∷ kept-damaged r f w ∷ []
 
 -- A catalogue's header, as far as it says which cells stand.
 pub record Header-in (p m n : ℕ) (f : Cells) : Type 0 where
@@ -90,14 +99,8 @@ module _ (p m n : ℕ) (f : Cells) (H : Header-in p m n f) where
   abbrev pub Fine : Outcome → Type 0
   Fine o = Proper p m n (o .writes)
 
-  record-fine : (w ph i o y h q k : ℕ) → w < p → Proper p m n (record-of w ph i o y h q k)
-  record-fine w ph i o y h q k l =
-      (l, omega arith, (l, omega arith, (l, omega arith, (l, omega arith, (l, omega arith, (l, omega arith, (l, omega arith, (l, omega arith,
-      (l, omega arith, (l, omega arith, (l, omega arith,
-          (l, omega arith, (l, omega arith, (l, omega arith, (l, omega arith, (l, omega arith, tt))))))))))))))))
-
   -- the node that line 45 and register take stands, where there is one
-  taken-in : no-node f ≡ false → node-to-take f < n
+  pub taken-in : no-node f ≡ false → node-to-take f < n
   taken-in = at (eqb (f given-back) 0) refl (leb (f nodes-limit) (f used)) refl
     where
       at : (a : Bool) → eqb (f given-back) 0 ≡ a → (b : Bool) → leb (f nodes-limit) (f used) ≡ b → a && b ≡ false → cond a (f used) (f given-back - 1) < n
@@ -136,7 +139,7 @@ module _ (p m n : ℕ) (f : Cells) (H : Header-in p m n f) where
 
     -- a line that answers clears the record
     answers-fine : Proper p m n (cleared w)
-    answers-fine = record-fine w 0 0 0 0 0 0 0 l
+    answers-fine = record-proper p m n w 0 0 0 0 0 0 0 l
 
     older-fine : Fine (to-older f w)
     older-fine = (l, omega arith, two)
@@ -160,7 +163,7 @@ module _ (p m n : ℕ) (f : Cells) (H : Header-in p m n f) where
             (eqb (f given-back) 0) (λ b. (omega arith, omega arith, (y, omega arith, (y, omega arith, (y, omega arith, (l, omega arith, two))))))
             (λ b. (omega arith, omega arith, (y, omega arith, (y, omega arith, (y, omega arith, (l, omega arith, two)))))))
 
-    line-46-fine : (r : PhaseRow) (d : Cells → ℕ → Bool) → eqb (r .operation) 2 ≡ true → Line-fine r (line d line-46)
+    line-46-fine : (r : PhaseRow) (d : Cells → ℕ → Bool) → inside-item r ≡ true → Line-fine r (line d line-46)
     unfolding Line-fine line-46
     line-46-fine r d e k = by-test Fine (eqb (f (head (f (item w)))) (f (node w)))
         (λ a. (omega (arith, k .item-in e, H .items-in), omega arith, (l, omega arith, two))) (λ a. two)
@@ -280,7 +283,7 @@ module _ (p m n : ℕ) (f : Cells) (H : Header-in p m n f) where
   -- a start writes its worker's record alone
   start-fine : (w ph i o y h q k : ℕ) (rs : List Refusal) → Fine (unless (no-worker f w ⇒ 3 ∷ rs) (accepts 0 (record-of w ph i o y h q k)))
   start-fine w ph i o y h q k rs =
-      unless-fine (no-worker f w ⇒ 3 ∷ rs) (accepts 0 (record-of w ph i o y h q k)) (λ z. record-fine w ph i o y h q k (worker-in w (z .0)))
+      unless-fine (no-worker f w ⇒ 3 ∷ rs) (accepts 0 (record-of w ph i o y h q k)) (λ z. record-proper p m n w ph i o y h q k (worker-in w (z .0)))
 
   pub call-fine : (x : Call) → Fine (comes-to f x)
   call-fine (Call.make a b c d e) = tt

@@ -1,7 +1,7 @@
 -- The cells that a catalogue of p workers, m items and n nodes has, and that each has a place of its own among the needed words.
 use Prim.Native.Nat.{ℕ, _+_, _*_, _-_, _<_, _≤_}
 use mathlib.Core.Bool.{Bool, true, false, cond}
-use mathlib.Core.Path.{_≡_, refl}
+use mathlib.Core.Path.{_≡_, refl, subst}
 use native.Mathlib.Omega.{arith}
 use lib.Dec.{ltb}
 use borrow.Author.Tests.{ltb-true, ltb-false}
@@ -88,3 +88,8 @@ place-past-sizes p m n c h l = at (sort p m n c h)
     at (worker a b e) = omega arith
     at (item a b e) = omega arith
     at (node a b e) = omega arith
+
+-- With equal sizes the same cells stand.
+pub stands-as : {p m n p' m' n' : ℕ} → p' ≡ p → m' ≡ m → n' ≡ n → (c : Cell) → Stands p' m' n' c → Stands p m n c
+stands-as {p} {m} {n} {p'} {m'} e g h c l =
+    subst (λ (x : ℕ). Stands x m n c) e (subst (λ (x : ℕ). Stands p' x n c) g (subst (λ (x : ℕ). Stands p' m' x c) h l))

@@ -8,7 +8,7 @@ use lib.Dec.{eqb}
 use lib.ListN.{length, getD, set, length-set}
 use lib.Seq.{getD-set-same, getD-set-other}
 use borrow.Author.Tests.{eqb-true, eqb-false, ne-eqb}
-use Rattle.definitions.specs.Cells.{Cell, cell, Cells, Assignment, place, items-start, nodes-start, needed, cells-at, written}
+use Rattle.definitions.specs.Cells.{record-of, Cell, cell, Cells, Assignment, place, items-start, nodes-start, needed, cells-at, written}
 use Rattle.cells.specs.Stands.{Stands, place-below, place-one}
 
 -- Cells are told apart by kind first, so that cells of two kinds written out differ by computation.
@@ -27,6 +27,12 @@ after f (x ∷ xs) = after (put f (x .to) (x .what)) xs
 abbrev pub Proper : (p m n : ℕ) → List Assignment → Type 0
 Proper p m n [] = Unit {0}
 Proper p m n (x ∷ xs) = Stands p m n (x .to) × (5 ≤ x .to .kind) × Proper p m n xs
+
+-- All words of a worker's record are proper to write.
+pub record-proper : (p m n w ph i o y h q k : ℕ) → w < p → Proper p m n (record-of w ph i o y h q k)
+record-proper p m n w ph i o y h q k l =
+    (l, omega arith, (l, omega arith, (l, omega arith, (l, omega arith, (l, omega arith, (l, omega arith, (l, omega arith, (l, omega arith,
+    (l, omega arith, (l, omega arith, (l, omega arith, (l, omega arith, (l, omega arith, (l, omega arith, (l, omega arith, (l, omega arith, tt))))))))))))))))
 
 -- The words show what f says of every cell that stands.
 abbrev pub Shows : (p m n : ℕ) → List ℕ → Cells → Type 0

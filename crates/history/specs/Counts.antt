@@ -9,7 +9,7 @@ use lib.ListN.{length, getD}
 use Rattle.history.specs.Definition1.{Operation, register, v-read, v-cas, take-snapshot, read-snapshot, total}
 use Rattle.history.specs.Notes.{Deed, Ending, goes-on, answers, ends-with, Note, refused, registered, started, stepped}
 use Rattle.history.specs.Ledger.{ledger, found-TBD}
-use Rattle.history.specs.Statements.{Noted}
+use Rattle.history.specs.Statements.{fate-of, Finished, last-line, Noted}
 
 -- a help takes one step where line 20 found a valid stamp, and three where it found TBD
 abbrev pub help-steps : Bool → ℕ
@@ -24,11 +24,13 @@ pub data CasSteps (l : List ℕ) : Type 0 where
 
 -- The lines executed by an operation that answered, or that ended with number 11 or 12. A readSnapshot's and a total's are exact as well: Statements.
 pub record StepCounts (run : List Note) : Type 0 where
-  pub of-v-read : (o i : ℕ) → ledger run .fate o .operation ≡ v-read i → ledger run .fate o .done ≡ true → length (ledger run .fate o .lines) ≡ cond (found-TBD (ledger run .fate o .lines)) 5 3
-  pub of-v-cas : (o i old new : ℕ) → ledger run .fate o .operation ≡ v-cas i old new → ledger run .fate o .done ≡ true → CasSteps (ledger run .fate o .lines)
-  pub of-take-snapshot : (o : ℕ) → ledger run .fate o .operation ≡ take-snapshot → ledger run .fate o .done ≡ true → length (ledger run .fate o .lines) ≡ 2
-  pub of-refusal : (o : ℕ) → (ledger run .fate o .refusal ≡ 0 → ⊥) →
-    ((ledger run .fate o .refusal ≡ 12) × (length (ledger run .fate o .lines) ≡ 1)) ⊎ ((ledger run .fate o .refusal ≡ 11) × (length (ledger run .fate o .lines) ≡ cond (found-TBD (ledger run .fate o .lines)) 6 4))
+  pub of-v-read : (o i : ℕ) → fate-of run o .operation ≡ v-read i → Finished run o →
+    length (fate-of run o .lines) ≡ cond (found-TBD (fate-of run o .lines)) 5 3
+  pub of-v-cas : (o i old new : ℕ) → fate-of run o .operation ≡ v-cas i old new → Finished run o → CasSteps (fate-of run o .lines)
+  pub of-take-snapshot : (o : ℕ) → fate-of run o .operation ≡ take-snapshot → Finished run o → length (fate-of run o .lines) ≡ 2
+  pub of-refusal : (o : ℕ) → (fate-of run o .refusal ≡ 0 → ⊥) →
+    ((fate-of run o .refusal ≡ 12) × (length (fate-of run o .lines) ≡ 1))
+      ⊎ ((fate-of run o .refusal ≡ 11) × (length (fate-of run o .lines) ≡ cond (found-TBD (fate-of run o .lines)) 6 4))
 
 -- the most steps that an operation may take
 abbrev pub most-steps : Operation → ℕ

@@ -13,10 +13,15 @@ use Rattle.history.specs.Notes.{Deed, Note}
 use Rattle.history.specs.Notes as Notes
 use Rattle.history.specs.Ledger.{Fate, ledger, helped, found-TBD}
 use Rattle.history.specs.Statements.{Noted}
+use Rattle.history.specs.NoteParts.{note-tag, note-worker, note-line, ending-tag, note-ending}
 use Rattle.history.specs.Counts.{help-steps, CasSteps, StepCounts, most-steps, Progress}
-use Rattle.history.specs.Machine.{Memory, Limits, Then, then-39, then-43, then-48, then-52, then-34, then-total-34, Phase, line-37, line-39, line-41, line-43, line-45, line-46, line-48, line-50, line-51, line-52, line-5, line-6, line-32, line-34, total-32, total-34, closing, line-20, line-21, line-22, line-number, Comes, goes-on, ends-with, answers-change, answers, line, memory-after, Worker, idle, busy, Catalogue, settle, affect, tick, call, after-calls}
+use Rattle.history.specs.Machine.{Memory, Limits, Then, then-39, then-43, then-48, then-52, then-34, then-total-34, Phase, line-37, line-39,
+    line-41, line-43, line-45, line-46, line-48, line-50, line-51, line-52, line-5, line-6, line-32, line-34, total-32, total-34, closing, line-20,
+    line-21, line-22, line-number, Comes, goes-on, ends-with, answers-change, answers, line, memory-after, Worker, idle, busy, Catalogue, settle,
+    affect, tick, call, after-calls}
 use Rattle.history.specs.PhaseFacts.{ThenFacts, Helping, Storing, Helped, PhaseFacts}
-use Rattle.history.specs.RightAnswers.{then-operation, phase-operation, has-published, published-after, WholeLines, FateLines, ComesRight, LineRight}
+use Rattle.history.specs.RightAnswers.{then-operation, phase-operation, has-published, published-after, WholeLines, FateLines, ComesRight,
+    LineRight}
 use Rattle.history.specs.EachLine.{every-line}
 use Rattle.history.specs.Places.{InOperation, WorkerRight, Invariant}
 use Rattle.history.specs.Run.{run-right}
@@ -36,13 +41,15 @@ step-counts limits cs =
   where
     lines : (o : ℕ) → FateLines (ledger (machine-notes limits cs) .fate o)
     lines o = subst FateLines (sym (agrees limits cs .fate o)) (run-right limits cs .kept .lines o)
-    whole : (o : ℕ) (op : Operation) → ledger (machine-notes limits cs) .fate o .operation ≡ op → ledger (machine-notes limits cs) .fate o .done ≡ true → WholeLines op (ledger (machine-notes limits cs) .fate o .lines)
+    whole : (o : ℕ) (op : Operation) → ledger (machine-notes limits cs) .fate o .operation ≡ op → ledger (machine-notes limits cs) .fate o .done ≡ true →
+        WholeLines op (ledger (machine-notes limits cs) .fate o .lines)
     whole o op w d = subst (λ (op : Operation). WholeLines op (ledger (machine-notes limits cs) .fate o .lines)) w (lines o .whole d)
 
 -- ---- progress
 
 -- before a help three more steps are not the last
-then-most : (t o : ℕ) (l : List ℕ) (m : Memory) (c : Then) (j n : ℕ) → ThenFacts t o l m c j → n ≤ length l + 3 → n ≤ 5120 → n < most-steps (then-operation c)
+then-most : (t o : ℕ) (l : List ℕ) (m : Memory) (c : Then) (j n : ℕ) → ThenFacts t o l m c j → n ≤ length l + 3 → n ≤ 5120 →
+    n < most-steps (then-operation c)
 then-most t o l m (then-39 i f) j n x a b = omega (arith, ap length (x .0))
 then-most t o l m (then-43 i u v f) j n x a b = omega (arith, ap length (x .0))
 then-most t o l m (then-48 i u v) j n x a b = omega (arith, tried-bound (46 ∷ 45 ∷ []) l (x .0))
@@ -78,54 +85,27 @@ phase-most t o l m (line-22 c j n r) x b = then-most t o (x .earlier) m c j (len
 
 -- the last call, if its operation goes on
 
-abbrev note-tag : Note → ℕ
-note-tag Notes.refused = 0
-note-tag (Notes.registered i v s) = 1
-note-tag (Notes.started w op) = 2
-note-tag (Notes.stepped w k d e) = 3
-
-abbrev note-worker : Note → ℕ
-note-worker Notes.refused = 0
-note-worker (Notes.registered i v s) = 0
-note-worker (Notes.started w op) = 0
-note-worker (Notes.stepped w k d e) = w
-
-abbrev note-line : Note → ℕ
-note-line Notes.refused = 0
-note-line (Notes.registered i v s) = 0
-note-line (Notes.started w op) = 0
-note-line (Notes.stepped w k d e) = k
-
-abbrev ending-tag : Notes.Ending → ℕ
-ending-tag Notes.goes-on = 0
-ending-tag (Notes.answers x) = 1
-ending-tag (Notes.ends-with n) = 2
-
-abbrev note-ending : Note → ℕ
-note-ending Notes.refused = 3
-note-ending (Notes.registered i v s) = 3
-note-ending (Notes.started w op) = 3
-note-ending (Notes.stepped w k d e) = ending-tag e
-
-module _ (s : Catalogue) (J : Invariant s) (run : List Note) (A : Agrees s run) where
+module _ (s : Catalogue) (invariant : Invariant s) (run : List Note) (A : Agrees s run) where
   -- where worker w executed line k and went on, it has not taken the most steps
   Unspent : Note → Catalogue → Type 0
   Unspent x s' =
-      ((w o : ℕ) (l : List ℕ) (ph : Phase) → tick s' .worker w ≡ busy o l ph → length l ≤ 5120) → (w k : ℕ) (d : Deed) → x ≡ Notes.stepped w k d Notes.goes-on →
+      ((w o : ℕ) (l : List ℕ) (ph : Phase) → tick s' .worker w ≡ busy o l ph → length l ≤ 5120) → (w k : ℕ) (d : Deed) →
+          x ≡ Notes.stepped w k d Notes.goes-on →
         length (k ∷ ledger run .lines w) < most-steps (ledger run .fate (ledger run .current w) .operation)
 
   no-step : (x : Note) (s' : Catalogue) → note-tag x ≢ 3 → Unspent x s'
   unfolding Unspent
   no-step x s' n b w k d e = absurd (n (ap note-tag e))
 
-  step-unspent : (w o : ℕ) (l : List ℕ) (ph : Phase) → s .worker w ≡ busy o l ph → Unspent (Notes.stepped w (line-number ph) (phase-deed (s .memory) ph) (ending (line (s .now) (s .memory) ph .comes))) (after-step s w o l ph)
+  step-unspent : (w o : ℕ) (l : List ℕ) (ph : Phase) → s .worker w ≡ busy o l ph →
+      Unspent (Notes.stepped w (line-number ph) (phase-deed (s .memory) ph) (ending (line (s .now) (s .memory) ph .comes))) (after-step s w o l ph)
   unfolding Unspent
   step-unspent w o l ph is bound w' k d e = at (line (s .now) (s .memory) ph .comes) (right .comes) (bound w o (line-number ph ∷ l)) (ap note-ending e)
     where
       K : InOperation (s .now) (s .memory) (s .fate o) (s .place o) w o l ph
-      K = subst (λ (y : Worker). WorkerRight (s .now) (s .memory) (s .fate) (s .place) w y) is (J .workers w)
+      K = subst (λ (y : Worker). WorkerRight (s .now) (s .memory) (s .fate) (s .place) w y) is (invariant .workers w)
       right : LineRight (s .now) o l (s .memory) ph (line (s .now) (s .memory) ph)
-      right = every-line (s .now) o l (s .memory) (J .kept .memory) (K .begun) ph (K .facts)
+      right = every-line (s .now) o l (s .memory) (invariant .kept .memory) (K .begun) ph (K .facts)
       its : InLedger (ledger run) w (busy o l ph)
       its = subst (λ (y : Worker). InLedger (ledger run) w y) is (A .worker w)
       same : w ≡ w'
@@ -133,22 +113,28 @@ module _ (s : Catalogue) (J : Invariant s) (run : List Note) (A : Agrees s run) 
       lines : line-number ph ∷ l ≡ k ∷ ledger run .lines w'
       lines = ap₂ (λ (k : ℕ) (l : List ℕ). k ∷ l) (ap note-line e) (sym (its .1) ∙ ap (ledger run .lines) same)
       operation : phase-operation ph ≡ ledger run .fate (ledger run .current w') .operation
-      operation = sym (K .operation) ∙ ap (λ (f : Fate). f .operation) (sym (A .fate o) ∙ ap (ledger run .fate) (sym (its .0) ∙ ap (ledger run .current) same))
-      at : (u : Comes) → ComesRight (suc (s .now)) o (line-number ph ∷ l) (memory-after (s .now) o (line (s .now) (s .memory) ph .does) (s .memory)) (phase-operation ph) (published-after (line (s .now) (s .memory) ph .does) (has-published ph)) u →
-        ((ph' : Phase) → tick (settle w o (line-number ph ∷ l) (affect o s (line (s .now) (s .memory) ph .does)) u) .worker w ≡ busy o (line-number ph ∷ l) ph' → length (line-number ph ∷ l) ≤ 5120) →
+      operation = sym (K .operation)
+          ∙ ap (λ (f : Fate). f .operation) (sym (A .fate o) ∙ ap (ledger run .fate) (sym (its .0) ∙ ap (ledger run .current) same))
+      at : (u : Comes) → ComesRight (suc (s .now)) o (line-number ph ∷ l) (memory-after (s .now) o (line (s .now) (s .memory) ph .does) (s .memory))
+          (phase-operation ph) (published-after (line (s .now) (s .memory) ph .does) (has-published ph)) u →
+        ((ph' : Phase) → tick (settle w o (line-number ph ∷ l) (affect o s (line (s .now) (s .memory) ph .does)) u) .worker w ≡ busy o
+            (line-number ph ∷ l) ph' → length (line-number ph ∷ l) ≤ 5120) →
         ending-tag (ending u) ≡ 0 → length (k ∷ ledger run .lines w') < most-steps (ledger run .fate (ledger run .current w') .operation)
       at (goes-on ph') c b z =
           subst (λ (op : Operation). length (k ∷ ledger run .lines w') < most-steps op) (c .same-operation ∙ operation)
             (subst (λ (l : List ℕ). length l < most-steps (phase-operation ph')) lines
-              (phase-most (suc (s .now)) o (line-number ph ∷ l) _ ph' (c .facts) (b ph' (unfold tick settle affect in (put-same (s .worker) w (busy o (line-number ph ∷ l) ph') w refl)))))
+              (phase-most (suc (s .now)) o (line-number ph ∷ l) _ ph' (c .facts)
+                  (b ph' (unfold tick settle affect in (put-same (s .worker) w (busy o (line-number ph ∷ l) ph') w refl)))))
       at (ends-with n) c b z = absurd (omega arith)
       at (answers-change x) c b z = absurd (omega arith)
       at (answers x τ j) c b z = absurd (omega arith)
 
-  call-unspent : (c : Call) → ((w o : ℕ) (l : List ℕ) (ph : Phase) → call s c .worker w ≡ busy o l ph → length l ≤ 5120) → (w k : ℕ) (d : Deed) → machine-note s c ≡ Notes.stepped w k d Notes.goes-on →
+  call-unspent : (c : Call) → ((w o : ℕ) (l : List ℕ) (ph : Phase) → call s c .worker w ≡ busy o l ph → length l ≤ 5120) → (w k : ℕ) (d : Deed) →
+      machine-note s c ≡ Notes.stepped w k d Notes.goes-on →
     length (k ∷ ledger run .lines w) < most-steps (ledger run .fate (ledger run .current w) .operation)
   unfolding Unspent call
-  call-unspent c = call-cases s J Unspent (no-step Notes.refused s (omega arith)) (λ v z p. no-step _ _ (omega arith)) (λ w op p. no-step _ _ (omega arith)) (λ w o l ph b e. step-unspent w o l ph e) c
+  call-unspent c = call-cases s invariant Unspent (no-step Notes.refused s (omega arith)) (λ v z p. no-step _ _ (omega arith))
+      (λ w op p. no-step _ _ (omega arith)) (λ w o l ph b e. step-unspent w o l ph e) c
 
 -- every operation of every run of the machine ends when it is stepped
 pub progress : (limits : Limits) → limits .items ≤ 256 → limits .nodes ≤ 4096 → (cs : List Call) → Progress (machine-notes limits cs)
@@ -157,4 +143,5 @@ progress limits a b [] w k d past n = absurd n
 progress limits a b (c ∷ cs) w k d past (inr n) = progress limits a b cs w k d past n
 progress limits a b (c ∷ cs) w k d past (inl (e, p)) =
     subst (λ (past : List Note). length (k ∷ ledger past .lines w) < most-steps (ledger past .fate (ledger past .current w) .operation)) (sym p)
-      (call-unspent (after-calls limits cs) (run-right limits cs) (machine-notes limits cs) (agrees limits cs) c (unfold after-calls in (steps-bound limits a b (c ∷ cs))) w k d (sym e))
+      (call-unspent (after-calls limits cs) (run-right limits cs) (machine-notes limits cs) (agrees limits cs) c (unfold after-calls in
+          (steps-bound limits a b (c ∷ cs))) w k d (sym e))

@@ -6,7 +6,7 @@ use mathlib.Core.List.{List, [], _∷_}
 use Prim.Native.Nat.{ℕ, zero, suc, _+_, _≤_, _<_, min}
 use native.Mathlib.Omega.{arith}
 use lib.Dec.{T, ltb, leb, eqb, leb→le}
-use Rattle.history.specs.Tools.{by-lt, by-test}
+use Rattle.history.specs.Tools.{by-lt, by-test, le-leb, and-both, and-parts}
 use Rattle.history.specs.Effects.{Effect, Happening, insert, on-item, new-value, value-at, count-if, birth-weight, sum-births}
 use Rattle.history.specs.Statements.{Among}
 use Rattle.history.specs.NodeCount.{sum-to}
@@ -69,53 +69,45 @@ unfolding insert count-if
 count-insert P x [] = refl
 count-insert P x (z ∷ l) = at (count-insert P x l)
   where
-    at : count-if P (insert x l) ≡ cond (P x) 1 0 + count-if P l → count-if P (cond (ltb (x .time) (z .time)) (z ∷ insert x l) (x ∷ z ∷ l)) ≡ cond (P x) 1 0 + (cond (P z) 1 0 + count-if P l)
-    at h = by-lt (λ (r : List Effect). count-if P r ≡ cond (P x) 1 0 + (cond (P z) 1 0 + count-if P l)) (x .time) (z .time) (λ p. omega (arith, h)) (λ p. refl)
+    at : count-if P (insert x l) ≡ cond (P x) 1 0 + count-if P l → count-if P (cond (ltb (x .time) (z .time)) (z ∷ insert x l) (x ∷ z ∷ l)) ≡ cond
+        (P x) 1 0 + (cond (P z) 1 0 + count-if P l)
+    at h = by-lt (λ (r : List Effect). count-if P r ≡ cond (P x) 1 0 + (cond (P z) 1 0 + count-if P l)) (x .time) (z .time) (λ p. omega (arith, h))
+        (λ p. refl)
 
 pub births-insert : (g : ℕ → ℕ → ℕ → ℕ → ℕ) (x : Effect) (l : List Effect) → sum-births g (insert x l) ≡ birth-weight g x + sum-births g l
 unfolding insert sum-births
 births-insert g x [] = refl
 births-insert g x (z ∷ l) = at (births-insert g x l)
   where
-    at : sum-births g (insert x l) ≡ birth-weight g x + sum-births g l → sum-births g (cond (ltb (x .time) (z .time)) (z ∷ insert x l) (x ∷ z ∷ l)) ≡ birth-weight g x + (birth-weight g z + sum-births g l)
-    at h = by-lt (λ (r : List Effect). sum-births g r ≡ birth-weight g x + (birth-weight g z + sum-births g l)) (x .time) (z .time) (λ p. omega (arith, h)) (λ p. refl)
+    at : sum-births g (insert x l) ≡ birth-weight g x + sum-births g l →
+        sum-births g (cond (ltb (x .time) (z .time)) (z ∷ insert x l) (x ∷ z ∷ l)) ≡ birth-weight g x + (birth-weight g z + sum-births g l)
+    at h = by-lt (λ (r : List Effect). sum-births g r ≡ birth-weight g x + (birth-weight g z + sum-births g l)) (x .time) (z .time)
+        (λ p. omega (arith, h)) (λ p. refl)
 
 -- ---- the value at a time
 
-and-both : (a b : Bool) → T a → T b → T (a && b)
-and-both true true p q = tt
-and-both true false p q = q
-and-both false b p q = p
-
-and-first : (a b : Bool) → T (a && b) → T a × T b
-and-first true true p = (tt, tt)
-and-first true false p = absurd p
-and-first false b p = absurd p
-
-le-leb : (a b : ℕ) → a ≤ b → T (leb a b)
-le-leb a b p = at (leb a b) refl
-  where
-    at : (c : Bool) → leb a b ≡ c → T c
-    at true e = tt
-    at false e = absurd (omega (arith, lib.Dec.nleb→lt a b (subst (λ (c : Bool). T (not c)) (sym e) tt)))
-
 -- e: the newest effect on item i up to τ; another at its time gives the same value
 pub value-is : (i τ : ℕ) (e : Effect) (l : List Effect) → Ordered l → Among e l → e .time ≤ τ → T (on-item i (e .what)) →
-  ((x : Effect) → Among x l → x .time ≤ τ → T (on-item i (x .what)) → (x .time ≤ e .time) × (x .time ≡ e .time → new-value (x .what) ≡ new-value (e .what))) → value-at l i τ ≡ new-value (e .what)
+  ((x : Effect) → Among x l → x .time ≤ τ → T (on-item i (x .what)) →
+      (x .time ≤ e .time) × (x .time ≡ e .time → new-value (x .what) ≡ new-value (e .what))) → value-at l i τ ≡ new-value (e .what)
 unfolding value-at
 value-is i τ e [] o a b c f = absurd a
 value-is i τ e (x ∷ l) o a b c f = at (value-is i τ e l (o .1)) a
   where
     passes : T (leb (e .time) τ && on-item i (e .what))
     passes = and-both (leb (e .time) τ) (on-item i (e .what)) (le-leb (e .time) τ b) c
-    at : (Among e l → e .time ≤ τ → T (on-item i (e .what)) → ((x : Effect) → Among x l → x .time ≤ τ → T (on-item i (x .what)) → (x .time ≤ e .time) × (x .time ≡ e .time → new-value (x .what) ≡ new-value (e .what))) → value-at l i τ ≡ new-value (e .what)) →
+    at : (Among e l → e .time ≤ τ → T (on-item i (e .what)) →
+        ((x : Effect) → Among x l → x .time ≤ τ → T (on-item i (x .what)) →
+        (x .time ≤ e .time) × (x .time ≡ e .time → new-value (x .what) ≡ new-value (e .what))) → value-at l i τ ≡ new-value (e .what)) →
       Among e (x ∷ l) → cond (leb (x .time) τ && on-item i (x .what)) (new-value (x .what)) (value-at l i τ) ≡ new-value (e .what)
     at h (inl q) =
         subst (λ (x : Effect). cond (leb (x .time) τ && on-item i (x .what)) (new-value (x .what)) (value-at l i τ) ≡ new-value (e .what)) q
-          (by-test (λ (v : ℕ). v ≡ new-value (e .what)) (leb (e .time) τ && on-item i (e .what)) (λ t. refl) (λ t. absurd (lib.Dec.T-not (leb (e .time) τ && on-item i (e .what)) t passes)))
+          (by-test (λ (v : ℕ). v ≡ new-value (e .what)) (leb (e .time) τ && on-item i (e .what)) (λ t. refl)
+              (λ t. absurd (lib.Dec.T-not (leb (e .time) τ && on-item i (e .what)) t passes)))
     at h (inr q) =
         by-test (λ (v : ℕ). v ≡ new-value (e .what)) (leb (x .time) τ && on-item i (x .what))
-          (λ t. let z : T (leb (x .time) τ) × T (on-item i (x .what)) = and-first (leb (x .time) τ) (on-item i (x .what)) t in
-            let g : (x .time ≤ e .time) × (x .time ≡ e .time → new-value (x .what) ≡ new-value (e .what)) = f x (inl refl) (leb→le (x .time) τ (z .0)) (z .1) in
+          (λ t. let z : T (leb (x .time) τ) × T (on-item i (x .what)) = and-parts (leb (x .time) τ) (on-item i (x .what)) t in
+            let g : (x .time ≤ e .time) × (x .time ≡ e .time → new-value (x .what) ≡ new-value (e .what)) = f x (inl refl) (leb→le (x .time) τ (z .0))
+                (z .1) in
             g .1 (omega (arith, g .0, o .0 e q)))
           (λ t. h q b c (λ y r. f y (inr r)))

@@ -8,7 +8,7 @@ use native.Mathlib.Omega.{arith}
 use lib.Dec.{T, leb, eqb, leb→le, nleb→lt}
 use lib.ListN.{length}
 use Rattle.definitions.specs.Calls.{Call}
-use Rattle.history.specs.Tools.{by-le, Split, split, Same, eq, ne, same?}
+use Rattle.history.specs.Tools.{Split, split, Same, eq, ne, same?, le-leb}
 use Rattle.history.specs.Definition1.{Operation, total}
 use Rattle.history.specs.Notes.{Note}
 use Rattle.history.specs.Ledger.{Fate, ledger, read-lines}
@@ -37,106 +37,124 @@ first-false : (a b : Bool) (s : ℕ) → (T a → ⊥) → cond (a && b) s 0 ≡
 first-false true b s f = absurd (f tt)
 first-false false b s f = refl
 
-le-leb : (a b : ℕ) → a ≤ b → T (leb a b)
-le-leb a b p = at (leb a b) refl
-  where
-    at : (c : Bool) → leb a b ≡ c → T c
-    at true e = tt
-    at false e = absurd (omega (arith, nleb→lt a b (subst (λ (c : Bool). T (not c)) (sym e) tt)))
-
-module _ (s : Catalogue) (J : Invariant s) (run : List Note) (E : Effected s run) (q h : ℕ) (gone : h < s .memory .camera .counter) where
+module _ (s : Catalogue) (invariant : Invariant s) (run : List Note) (E : Effected s run) (q h : ℕ) (gone : h < s .memory .camera .counter) where
   -- what the total has of an item
   share : ℕ → ℕ
-  share i = cond (leb (s .memory .item i .effect-at 0) (s .memory .camera .left-at h) && eqb (value-at (effects run) i (s .memory .camera .left-at h)) q) (s .memory .item i .size) 0
+  share i = cond (leb (s .memory .item i .effect-at 0) (s .memory .camera .left-at h) && eqb (value-at (effects run) i (s .memory .camera .left-at h)) q)
+      (s .memory .item i .size) 0
 
   not-born : (i : ℕ) → s .memory .camera .left-at h < s .memory .item i .effect-at 0 → share i ≡ 0
   unfolding share
-  not-born i p = first-false (leb (s .memory .item i .effect-at 0) (s .memory .camera .left-at h)) _ (s .memory .item i .size) (λ t. absurd (omega (arith, leb→le (s .memory .item i .effect-at 0) (s .memory .camera .left-at h) t)))
+  not-born i p = first-false (leb (s .memory .item i .effect-at 0) (s .memory .camera .left-at h)) _ (s .memory .item i .size)
+      (λ t. absurd (omega (arith, leb→le (s .memory .item i .effect-at 0) (s .memory .camera .left-at h) t)))
 
   born : (i j : ℕ) {o e : ℕ} {l : List ℕ} → Read (s .memory) i h o e j l → s .memory .item i .effect-at 0 ≤ s .memory .camera .left-at h
   born i j x = at (same? 0 j)
     where
       at : Same 0 j → s .memory .item i .effect-at 0 ≤ s .memory .camera .left-at h
       at (eq z) = omega (arith, x .sees .begun, ap (s .memory .item i .effect-at) z)
-      at (ne z) = omega (arith, x .sees .begun, effects-rise s J i 0 j (omega arith) (x .sees .have))
+      at (ne z) = omega (arith, x .sees .begun, effects-rise s invariant i 0 j (omega arith) (x .sees .have))
 
-  shared : (i j : ℕ) {o e : ℕ} {l : List ℕ} → Read (s .memory) i h o e j l → share i ≡ cond (eqb (s .memory .item i .value j) q) (s .memory .item i .size) 0
+  shared : (i j : ℕ) {o e : ℕ} {l : List ℕ} → Read (s .memory) i h o e j l → share i ≡ cond (eqb (s .memory .item i .value j) q)
+      (s .memory .item i .size) 0
   unfolding share
   shared i j x =
       both-true (leb (s .memory .item i .effect-at 0) (s .memory .camera .left-at h)) _ (s .memory .item i .size) (le-leb _ _ (born i j x))
-        ∙ ap (λ (v : ℕ). cond (eqb v q) (s .memory .item i .size) 0) (value-seen s J run E i (s .memory .camera .left-at h) j (x .sees))
+        ∙ ap (λ (v : ℕ). cond (eqb v q) (s .memory .item i .size) 0) (value-seen s invariant run E i (s .memory .camera .left-at h) j (x .sees))
 
   -- the sum is that of the shares
   sum-is : {o e i u : ℕ} {l : List ℕ} → Sum (s .memory) q h o e i u l → u ≡ sum-to share i
   unfolding sum-to
   sum-is empty = refl
-  sum-is (skip {i} {u} {l} z x y) = omega (arith, sum-is y, not-born i (J .kept .memory .item i .counted 0 z .past h x))
+  sum-is (skip {i} {u} {l} z x y) = omega (arith, sum-is y, not-born i (invariant .kept .memory .item i .counted 0 z .past h x))
   sum-is (plus {i} {u} {l} j r x y) = omega (arith, sum-is y, shared i j x)
 
   -- items beyond those noted were born later
-  all-items : (k n : ℕ) → k ≤ n → ((y : ℕ) → k ≤ y → y < n → s .memory .camera .left-at h < s .memory .item y .effect-at 0) → sum-to share n ≡ sum-to share k
+  all-items : (k n : ℕ) → k ≤ n → ((y : ℕ) → k ≤ y → y < n → s .memory .camera .left-at h < s .memory .item y .effect-at 0) →
+      sum-to share n ≡ sum-to share k
   unfolding sum-to
   all-items k zero p f = let z : 0 ≡ k = omega arith in ap (sum-to share) z
   all-items k (suc n) p f = at (all-items k n) (same? k (suc n))
     where
-      at : (k ≤ n → ((y : ℕ) → k ≤ y → y < n → s .memory .camera .left-at h < s .memory .item y .effect-at 0) → sum-to share n ≡ sum-to share k) → Same k (suc n) → share n + sum-to share n ≡ sum-to share k
+      at : (k ≤ n → ((y : ℕ) → k ≤ y → y < n → s .memory .camera .left-at h < s .memory .item y .effect-at 0) → sum-to share n ≡ sum-to share k) →
+          Same k (suc n) → share n + sum-to share n ≡ sum-to share k
       at g (eq e) = unfold sum-to in (ap (sum-to share) (sym e))
       at g (ne e) = omega (arith, g (omega arith) (λ y u v. f y u (omega arith)), not-born n (f n (omega arith) (omega arith)))
 
   -- the lines, item by item
-  lines-are : (o e ended : ℕ) → e ≡ suc ended → {i u : ℕ} {l : List ℕ} → Sum (s .memory) q h o e i u l → TotalLines (effects run) (s .memory .camera .left-at h) o ended i l
+  lines-are : (o e ended : ℕ) → e ≡ suc ended → {i u : ℕ} {l : List ℕ} → Sum (s .memory) q h o e i u l →
+      TotalLines (effects run) (s .memory .camera .left-at h) o ended i l
   lines-are o e ended a empty = no-item
   lines-are o e ended a (skip {i} {u} {l} z x y) =
-      born-later {i = i} (s .memory .item i .effect-at 0) (s .memory .item i .value 0) (s .memory .item i .size) (E .memory .versions i 0 z) (J .kept .memory .item i .counted 0 z .past h x) (lines-are o e ended a y)
+      born-later {i = i} (s .memory .item i .effect-at 0) (s .memory .item i .value 0) (s .memory .item i .size) (E .memory .versions i 0 z)
+          (invariant .kept .memory .item i .counted 0 z .past h x) (lines-are o e ended a y)
   lines-are o e ended a (plus {i} {u} {l} j r x y) =
-      subst (λ (r : List ℕ). TotalLines (effects run) (s .memory .camera .left-at h) o ended (suc i) (r ++ l)) (ap (read-lines (x .tbd)) (passed-is s J run E i h o e j r x) ∙ sym (x .lines))
+      subst (λ (r : List ℕ). TotalLines (effects run) (s .memory .camera .left-at h) o ended (suc i) (r ++ l))
+          (ap (read-lines (x .tbd)) (passed-is s invariant run E i h o e j r x) ∙ sym (x .lines))
         (read {i = i} (x .tbd) (x .f) (x .since) (omega (arith, x .till)) (lines-are o e ended a y))
 
-  exact-total : (A : Agrees s run) (o τ x : ℕ) → s .fate o .answer ≡ x → τ ≡ s .fate o .ended-at → TotalRead (s .memory) q h o (s .fate o .lines) τ x → ExactTotal run o q h
+  exact-total : (A : Agrees s run) (o τ x : ℕ) → s .fate o .answer ≡ x → τ ≡ s .fate o .ended-at → TotalRead (s .memory) q h o (s .fate o .lines) τ x →
+      ExactTotal run o q h
   exact-total A o τ x a b R =
       record {
         left = s .memory .camera .left-at h; taken = E .memory .snapshots h gone;
         answer = ap (λ (f : Fate). f .answer) (A .fate o) ∙ a ∙ sum-is (R .sum) ∙ sym (all-items (R .k) (s .memory .items) (R .registered) later) ∙ shares;
         items = R .k; lines = R .earlier;
-        each = subst (λ (t : ℕ). TotalLines (effects run) (s .memory .camera .left-at h) o t (R .k) (R .earlier)) (b ∙ sym (ap (λ (f : Fate). f .ended-at) (A .fate o))) (lines-are o (suc τ) τ refl (R .sum));
+        each = subst (λ (t : ℕ). TotalLines (effects run) (s .memory .camera .left-at h) o t (R .k) (R .earlier))
+            (b ∙ sym (ap (λ (f : Fate). f .ended-at) (A .fate o))) (lines-are o (suc τ) τ refl (R .sum));
         closing = ap (λ (f : Fate). f .lines) (A .fate o) ∙ R .lines }
     where
       later : (y : ℕ) → R .k ≤ y → y < s .memory .items → s .memory .camera .left-at h < s .memory .item y .effect-at 0
-      later y u v = omega (arith, R .when, R .covers y u (J .kept .memory .registered y v), J .kept .memory .item y .birth (J .kept .memory .registered y v))
+      later y u v = omega (arith, R .when, R .covers y u (invariant .kept .memory .registered y v), invariant .kept .memory .item y .birth
+          (invariant .kept .memory .registered y v))
       shares : sum-to share (s .memory .items) ≡ total-at (effects run) q (s .memory .camera .left-at h)
-      shares = unfold share in (sym (E .memory .births (λ t i v z. cond (leb t (s .memory .camera .left-at h) && eqb (value-at (effects run) i (s .memory .camera .left-at h)) q) z 0)))
+      shares = unfold share in
+          (sym (E .memory .births
+          (λ t i v z. cond (leb t (s .memory .camera .left-at h) && eqb (value-at (effects run) i (s .memory .camera .left-at h)) q) z 0)))
 
-module _ (s : Catalogue) (J : Invariant s) where
+module _ (s : Catalogue) (invariant : Invariant s) where
   -- what is known of a finished total
-  finished-total : (o q h : ℕ) → s .fate o .operation ≡ total q h → s .fate o .done ≡ true → (τ : ℕ) × TotalRead (s .memory) q h o (s .fate o .lines) τ (s .fate o .answer) × (τ ≡ s .fate o .ended-at)
+  finished-total : (o q h : ℕ) → s .fate o .operation ≡ total q h → s .fate o .done ≡ true → (τ : ℕ) × TotalRead (s .memory) q h o (s .fate o .lines) τ
+      (s .fate o .answer) × (τ ≡ s .fate o .ended-at)
   finished-total o q h w d = at (s .place o) refl
     where
       right : (p : Place) → s .place o ≡ p → PlaceRight (s .now) o (s .memory) (s .fate o) p
-      right p e = subst (λ (p : Place). PlaceRight (s .now) o (s .memory) (s .fate o) p) e (J .kept .places o)
+      right p e = subst (λ (p : Place). PlaceRight (s .now) o (s .memory) (s .fate o) p) e (invariant .kept .places o)
       at : (p : Place) → s .place o ≡ p → (τ : ℕ) × TotalRead (s .memory) q h o (s .fate o .lines) τ (s .fate o .answer) × (τ ≡ s .fate o .ended-at)
       at unplaced e = absurd (true≢false (sym d ∙ right unplaced e))
       at (awaits a b) e = absurd (true≢false (sym d ∙ right (awaits a b) e))
-      at (changes a b) e = let z : 5 ≤ 2 = subst (λ (n : ℕ). n ≤ 2) (ap operation-tag (sym (change-operation s J o a b e) ∙ w)) (asked-tag (s .memory .item a) a b) in absurd (omega arith)
+      at (changes a b) e = let z : 5 ≤ 2 = subst (λ (n : ℕ). n ≤ 2) (ap operation-tag (sym (change-operation s invariant o a b e) ∙ w))
+          (asked-tag (s .memory .item a) a b) in absurd (omega arith)
       at (observes τ j x) e =
           let O : ObserverRight (s .now) o τ j x (s .memory) (s .fate o) = right (observes τ j x) e in
-          let R : TotalRead (s .memory) q h o (s .fate o .lines) τ x = subst (λ (op : Operation). RightAnswer (s .memory) op o (s .fate o .lines) τ j x) w (O .seen) in
+          let R : TotalRead (s .memory) q h o (s .fate o .lines) τ x = subst (λ (op : Operation). RightAnswer (s .memory) op o (s .fate o .lines) τ j x) w
+              (O .seen) in
           let u : suc τ ≡ suc (s .fate o .ended-at) = subst (λ (op : Operation). AtLastStep op τ (suc (s .fate o .ended-at))) w (O .last) in
           (τ, subst (λ (x : ℕ). TotalRead (s .memory) q h o (s .fate o .lines) τ x) (sym (O .is)) R, omega arith)
 
 -- every finished total of every run of the machine
-pub exact-totals : (limits : Limits) (cs : List Call) (o q h : ℕ) → ledger (machine-notes limits cs) .fate o .operation ≡ total q h → ledger (machine-notes limits cs) .fate o .done ≡ true → ExactTotal (machine-notes limits cs) o q h
+pub exact-totals : (limits : Limits) (cs : List Call) (o q h : ℕ) → ledger (machine-notes limits cs) .fate o .operation ≡ total q h →
+    ledger (machine-notes limits cs) .fate o .done ≡ true → ExactTotal (machine-notes limits cs) o q h
 exact-totals limits cs o q h w d =
-    exact-total (after-calls limits cs) (run-right limits cs) (machine-notes limits cs) (effected limits cs) q h (x .1 .gone) (agrees limits cs) o (x .0) _ refl (x .2) (x .1)
+    exact-total (after-calls limits cs) (run-right limits cs) (machine-notes limits cs) (effected limits cs) q h (x .1 .gone) (agrees limits cs) o
+        (x .0) _ refl (x .2) (x .1)
   where
-    x : (τ : ℕ) × TotalRead (after-calls limits cs .memory) q h o (after-calls limits cs .fate o .lines) τ (after-calls limits cs .fate o .answer) × (τ ≡ after-calls limits cs .fate o .ended-at)
-    x = finished-total (after-calls limits cs) (run-right limits cs) o q h (sym (ap (λ (f : Fate). f .operation) (agrees limits cs .fate o)) ∙ w) (sym (ap (λ (f : Fate). f .done) (agrees limits cs .fate o)) ∙ d)
+    x : (τ : ℕ) × TotalRead (after-calls limits cs .memory) q h o (after-calls limits cs .fate o .lines) τ (after-calls limits cs .fate o .answer)
+        × (τ ≡ after-calls limits cs .fate o .ended-at)
+    x = finished-total (after-calls limits cs) (run-right limits cs) o q h (sym (ap (λ (f : Fate). f .operation) (agrees limits cs .fate o)) ∙ w)
+        (sym (ap (λ (f : Fate). f .done) (agrees limits cs .fate o)) ∙ d)
 
 -- never more than 5,121 steps
-pub total-most : (limits : Limits) → limits .items ≤ 256 → limits .nodes ≤ 4096 → (cs : List Call) (o q h : ℕ) → ledger (machine-notes limits cs) .fate o .operation ≡ total q h → ledger (machine-notes limits cs) .fate o .done ≡ true →
+pub total-most : (limits : Limits) → limits .items ≤ 256 → limits .nodes ≤ 4096 → (cs : List Call) (o q h : ℕ) →
+    ledger (machine-notes limits cs) .fate o .operation ≡ total q h → ledger (machine-notes limits cs) .fate o .done ≡ true →
   length (ledger (machine-notes limits cs) .fate o .lines) ≤ 5121
 total-most limits a b cs o q h w d =
     subst (λ (f : Fate). length (f .lines) ≤ 5121) (sym (agrees limits cs .fate o))
-      (total-bound (after-calls limits cs) (run-right limits cs) (tally limits cs) (subst (λ (y : Limits). y .items ≤ 256) (sym (limits-kept limits cs)) a) (subst (λ (y : Limits). y .nodes ≤ 4096) (sym (limits-kept limits cs)) b) q h o (x .0) _ _ (x .1))
+      (total-bound (after-calls limits cs) (run-right limits cs) (tally limits cs)
+          (subst (λ (y : Limits). y .items ≤ 256) (sym (limits-kept limits cs)) a)
+          (subst (λ (y : Limits). y .nodes ≤ 4096) (sym (limits-kept limits cs)) b) q h o (x .0) _ _ (x .1))
   where
-    x : (τ : ℕ) × TotalRead (after-calls limits cs .memory) q h o (after-calls limits cs .fate o .lines) τ (after-calls limits cs .fate o .answer) × (τ ≡ after-calls limits cs .fate o .ended-at)
-    x = finished-total (after-calls limits cs) (run-right limits cs) o q h (sym (ap (λ (f : Fate). f .operation) (agrees limits cs .fate o)) ∙ w) (sym (ap (λ (f : Fate). f .done) (agrees limits cs .fate o)) ∙ d)
+    x : (τ : ℕ) × TotalRead (after-calls limits cs .memory) q h o (after-calls limits cs .fate o .lines) τ (after-calls limits cs .fate o .answer)
+        × (τ ≡ after-calls limits cs .fate o .ended-at)
+    x = finished-total (after-calls limits cs) (run-right limits cs) o q h (sym (ap (λ (f : Fate). f .operation) (agrees limits cs .fate o)) ∙ w)
+        (sym (ap (λ (f : Fate). f .done) (agrees limits cs .fate o)) ∙ d)

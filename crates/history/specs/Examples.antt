@@ -7,8 +7,11 @@ use lib.ListN.{replicate}
 use Rattle.definitions.specs.Calls.{Call}
 use Rattle.history.specs.Tools.{put}
 use Rattle.history.specs.Notes.{Note}
-use Rattle.history.specs.Effects.{Effect, birth, change, snapshot, last-step, last-published, deed-effect, note-effect, insert, insert-all, effects}
-use Rattle.history.specs.Machine.{Limits, Catalogue, first-free, node-to-take, used-next, all-but-first, one-taken, one-returned, after, total-at, line, memory-after, place-after, ended, turned-away, affect, settle, tick, stepped, stepping, first-phase, begun, starting, registered, registering, move, call, reply, fresh, after-calls}
+use Rattle.history.specs.Effects.{Effect, birth, change, snapshot, last-step, last-published, deed-effect, note-effect, insert, insert-all,
+    effects}
+use Rattle.history.specs.Machine.{Limits, Catalogue, first-free, node-to-take, used-next, all-but-first, one-taken, one-returned, after,
+    total-at, line, memory-after, place-after, ended, turned-away, affect, settle, tick, stepped, stepping, first-phase, begun, starting, registered,
+    registering, move, call, reply, fresh, after-calls}
 use Rattle.history.specs.MachineNotes.{machine-note, machine-notes}
 use Rattle.history.specs.OrderList.{slot-onto, order-to}
 use Rattle.history.specs.NotesOrder.{notes-order, notes-order-is}
@@ -28,39 +31,56 @@ sizes = record { workers = 3; items = 1; nodes = 4; projects = 4; counter = 16 }
 abbrev order-of : List Call → List ℕ
 order-of cs = notes-order sizes (made cs []) .order
 
--- A helper stamps another's node after a snapshot was taken in between. Worker 0's vCAS (1) publishes and stops. Worker 1's vRead (7) fetches its node and reads
--- the counter; worker 2's takeSnapshot (11) answers 0; then worker 1 stamps the node, and answers 2. Worker 2's readSnapshot (16) at handle 0 answers 2, and worker 0 answers last.
+-- A helper stamps another's node after a snapshot was taken in between. Worker 0's vCAS (1) publishes and stops. Worker 1's vRead (7) fetches its node and
+-- reads
+-- the counter; worker 2's takeSnapshot (11) answers 0; then worker 1 stamps the node, and answers 2. Worker 2's readSnapshot (16) at handle 0 answers 2,
+-- and worker 0 answers last.
 helped : List Call
 helped =
-    Call.register 1 100 ∷ Call.v-cas 0 0 1 2 ∷ steps 0 5 ++ (Call.v-read 1 0 ∷ steps 1 3 ++ (Call.take-snapshot 2 ∷ steps 2 2 ++ (steps 1 2 ++ (Call.read-snapshot 2 0 0 ∷ steps 2 3 ++ steps 0 2))))
+    Call.register 1 100 ∷ Call.v-cas 0 0 1 2 ∷ steps 0 5
+    ++ (Call.v-read 1 0 ∷ steps 1 3 ++ (Call.take-snapshot 2 ∷ steps 2 2 ++ (steps 1 2 ++ (Call.read-snapshot 2 0 0 ∷ steps 2 3 ++ steps 0 2))))
 
--- The vCAS took effect at the helper's line 21, call 10: before the snapshot, call 13, and before the vRead, at the line 22 that made the stamp valid, call 14.
+-- The vCAS took effect at the helper's line 21, call 10: before the snapshot, call 13, and before the vRead, at the line 22 that made the stamp valid,
+-- call 14.
 helped-order : order-of helped ≡ 16 ∷ 7 ∷ 11 ∷ 1 ∷ 0 ∷ []
-unfolding helped order-to slot-onto first-free node-to-take used-next all-but-first one-taken one-returned after total-at line memory-after place-after ended turned-away affect settle tick stepped stepping first-phase begun starting registered registering move call reply fresh after-calls put
+unfolding helped order-to slot-onto first-free node-to-take used-next all-but-first one-taken one-returned after total-at line memory-after
+    place-after ended turned-away affect settle tick stepped stepping first-phase begun starting registered registering move call reply fresh
+    after-calls put
 helped-order = notes-order-is sizes (made helped []) ∙ refl
 
-helped-effects : effects (machine-notes sizes (made helped [])) ≡ record { time = 13; what = snapshot 0 } ∷ record { time = 10; what = change 0 2 6 } ∷ record { time = 0; what = birth 0 1 100 } ∷ []
-unfolding helped effects insert-all insert note-effect deed-effect last-step last-published machine-notes machine-note first-free node-to-take used-next all-but-first one-taken one-returned after total-at line memory-after place-after ended turned-away affect settle tick stepped stepping first-phase begun starting registered registering move call reply fresh after-calls put
+helped-effects : effects (machine-notes sizes (made helped [])) ≡ record { time = 13; what = snapshot 0 } ∷ record { time = 10;
+    what = change 0 2 6 } ∷ record { time = 0; what = birth 0 1 100 } ∷ []
+unfolding helped effects insert-all insert note-effect deed-effect last-step last-published machine-notes machine-note first-free node-to-take
+    used-next all-but-first one-taken one-returned after total-at line memory-after place-after ended turned-away affect settle tick stepped stepping
+    first-phase begun starting registered registering move call reply fresh after-calls put
 helped-effects = refl
 
--- A lost vCAS comes right after the first change, while a second change follows. Worker 1's vCAS(1,3) (2) is past 45 when worker 0's vCAS(1,2) (1) changes the value; worker 2's
+-- A lost vCAS comes right after the first change, while a second change follows. Worker 1's vCAS(1,3) (2) is past 45 when worker 0's vCAS(1,2) (1) changes
+-- the value; worker 2's
 -- vCAS(2,0) (16) changes it again; then worker 1 loses at 46, and answers 0 last.
 lost : List Call
 lost = Call.register 1 100 ∷ Call.v-cas 0 0 1 2 ∷ Call.v-cas 1 0 1 3 ∷ steps 1 4 ++ (steps 0 9 ++ (Call.v-cas 2 0 2 0 ∷ steps 2 9 ++ steps 1 5))
 
 lost-order : order-of lost ≡ 16 ∷ 2 ∷ 1 ∷ 0 ∷ []
-unfolding lost order-to slot-onto first-free node-to-take used-next all-but-first one-taken one-returned after total-at line memory-after place-after ended turned-away affect settle tick stepped stepping first-phase begun starting registered registering move call reply fresh after-calls put
+unfolding lost order-to slot-onto first-free node-to-take used-next all-but-first one-taken one-returned after total-at line memory-after place-after
+    ended turned-away affect settle tick stepped stepping first-phase begun starting registered registering move call reply fresh after-calls put
 lost-order = notes-order-is sizes (made lost []) ∙ refl
 
-lost-effects : effects (machine-notes sizes (made lost [])) ≡ record { time = 23; what = change 0 0 21 } ∷ record { time = 13; what = change 0 2 11 } ∷ record { time = 0; what = birth 0 1 100 } ∷ []
-unfolding lost effects insert-all insert note-effect deed-effect last-step last-published machine-notes machine-note first-free node-to-take used-next all-but-first one-taken one-returned after total-at line memory-after place-after ended turned-away affect settle tick stepped stepping first-phase begun starting registered registering move call reply fresh after-calls put
+lost-effects : effects (machine-notes sizes (made lost [])) ≡ record { time = 23; what = change 0 0 21 } ∷ record { time = 13;
+    what = change 0 2 11 } ∷ record { time = 0; what = birth 0 1 100 } ∷ []
+unfolding lost effects insert-all insert note-effect deed-effect last-step last-published machine-notes machine-note first-free node-to-take used-next
+    all-but-first one-taken one-returned after total-at line memory-after place-after ended turned-away affect settle tick stepped stepping
+    first-phase begun starting registered registering move call reply fresh after-calls put
 lost-effects = refl
 
--- Two takeSnapshots share a moment. Workers 0 (1) and 1 (2) both read 0 at line 5; worker 1 moves the counter, call 5, and answers 0; worker 2's vRead (6) answers; then worker 0
+-- Two takeSnapshots share a moment. Workers 0 (1) and 1 (2) both read 0 at line 5; worker 1 moves the counter, call 5, and answers 0; worker 2's vRead (6)
+-- answers; then worker 0
 -- fails at line 6 and answers 0 last, though it too took effect at call 5.
 shared : List Call
 shared = Call.register 1 100 ∷ Call.take-snapshot 0 ∷ Call.take-snapshot 1 ∷ Call.step 0 ∷ steps 1 2 ++ (Call.v-read 2 0 ∷ steps 2 3 ++ steps 0 1)
 
 shared-order : order-of shared ≡ 6 ∷ 2 ∷ 1 ∷ 0 ∷ []
-unfolding shared order-to slot-onto first-free node-to-take used-next all-but-first one-taken one-returned after total-at line memory-after place-after ended turned-away affect settle tick stepped stepping first-phase begun starting registered registering move call reply fresh after-calls put
+unfolding shared order-to slot-onto first-free node-to-take used-next all-but-first one-taken one-returned after total-at line memory-after
+    place-after ended turned-away affect settle tick stepped stepping first-phase begun starting registered registering move call reply fresh
+    after-calls put
 shared-order = notes-order-is sizes (made shared []) ∙ refl

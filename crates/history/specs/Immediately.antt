@@ -11,6 +11,7 @@ use Rattle.history.specs.Definition1.{Operation, register, v-read, v-cas
 use Rattle.history.specs.Notes.{Deed, Note}
 use Rattle.history.specs.Notes as Notes
 use Rattle.history.specs.Ledger.{Fate, ledger}
+use Rattle.history.specs.NoteParts.{deed-item, note-tag, note-worker, note-line, note-deed}
 use Rattle.history.specs.Statements.{Noted, Executed, LostTo, In, first, later, Once, Falling, Behind, RightAfter, Immediately}
 use Rattle.history.specs.Machine.{Item, Memory, Place, unplaced, awaits, changes, observes, Catalogue}
 use Rattle.history.specs.Facts.{MemoryFacts}
@@ -19,7 +20,8 @@ use Rattle.history.specs.Places.{asked-for, ChangeRight, ObserverRight, 
 use Rattle.history.specs.OneOrder.{key-of, OneOrder}
 use Rattle.history.specs.OrderShown.{operation-tag, asked-tag}
 use Rattle.history.specs.Order.{has-one-order}
-use Rattle.history.specs.Trace.{FetchedBy, LostAt, HeadTraced, LossTraced, CasTraced, ends-43, ends-48, ends-52, ReadTraced, EndTraced, Stamping, MemoryTraced, Traced, noted-past}
+use Rattle.history.specs.Trace.{FetchedBy, LostAt, HeadTraced, LossTraced, CasTraced, ends-43, ends-48, ends-52, ReadTraced, EndTraced,
+    Stamping, MemoryTraced, Traced, noted-past}
 use Rattle.history.specs.Moments.{Ended, Moments}
 use Rattle.history.specs.TraceRun.{done-past}
 use Rattle.history.specs.Instants.{stamped-rises, stamped-first, lost-to}
@@ -33,58 +35,39 @@ noted-one x y past past' (z ∷ l) (inl (p, q)) (inr b) e = absurd (omega (arith
 noted-one x y past past' (z ∷ l) (inr a) (inl (p, q)) e = absurd (omega (arith, ap length q, noted-past x past l a))
 noted-one x y past past' (z ∷ l) (inr a) (inr b) e = noted-one x y past past' l a b e
 
-abbrev note-line : Note → ℕ
-note-line Notes.refused = 100
-note-line (Notes.registered i v s) = 101
-note-line (Notes.started w op) = 102
-note-line (Notes.stepped w k d e) = k
-
-abbrev note-deed : Note → Deed
-note-deed Notes.refused = Notes.nothing
-note-deed (Notes.registered i v s) = Notes.nothing
-note-deed (Notes.started w op) = Notes.nothing
-note-deed (Notes.stepped w k d e) = d
-
-abbrev note-worker : Note → ℕ
-note-worker Notes.refused = 0
-note-worker (Notes.registered i v s) = 0
-note-worker (Notes.started w op) = 0
-note-worker (Notes.stepped w k d e) = w
-
-abbrev deed-item : Deed → ℕ
-deed-item (Notes.fetches i b) = i
-deed-item (Notes.publishes i v) = i
-deed-item (Notes.stamps i v) = i
-deed-item (Notes.moves h) = h
-deed-item Notes.nothing = 0
-
 module _ (run : List Note) where
   -- two events at one time are one
   same-event : {o o' k k' t : ℕ} {d d' : Deed} → Executed run o k d t → Executed run o' k' d' t → (k ≡ k') × (d ≡ d') × (o ≡ o')
   same-event {o} {o'} {k} {k'} {t} {d} {d'} a b =
-      let z : (Notes.stepped (a .w) k d (a .e) ≡ Notes.stepped (b .w) k' d' (b .e)) × (a .past ≡ b .past) = noted-one (Notes.stepped (a .w) k d (a .e)) (Notes.stepped (b .w) k' d' (b .e)) (a .past) (b .past) run (a .noted) (b .noted) (a .at ∙ sym (b .at)) in
-      (ap note-line (z .0), ap note-deed (z .0), sym (a .its) ∙ ap₂ (λ (l : List Note) (w : ℕ). ledger l .current w) (z .1) (ap note-worker (z .0)) ∙ b .its)
+      let z : (Notes.stepped (a .w) k d (a .e) ≡ Notes.stepped (b .w) k' d' (b .e)) × (a .past ≡ b .past) = noted-one (Notes.stepped (a .w) k d (a .e))
+          (Notes.stepped (b .w) k' d' (b .e)) (a .past) (b .past) run (a .noted) (b .noted) (a .at ∙ sym (b .at)) in
+      (ap note-line (z .0), ap note-deed (z .0), sym (a .its) ∙ ap₂ (λ (l : List Note) (w : ℕ). ledger l .current w) (z .1) (ap note-worker (z .0))
+          ∙ b .its)
 
   other-line : {o o' k k' t : ℕ} {d d' : Deed} → Executed run o k d t → Executed run o' k' d' t → k ≢ k' → ⊥
   other-line a b n = n (same-event a b .0)
 
 -- ---- what else takes effect at the instant of version g + 1 of item i
 
-module _ (s : Catalogue) (J : Invariant s) (run : List Note) (T : Traced s run) (M : Moments s run) (i g : ℕ) (good : suc g < s .memory .item i .valid) where
+module _ (s : Catalogue) (invariant : Invariant s) (run : List Note) (T : Traced s run) (M : Moments s run) (i g : ℕ)
+    (good : suc g < s .memory .item i .valid) where
   -- the step at that instant is the line 21
   read-21 : (t : ℕ) → t ≡ s .memory .item i .effect-at (suc g) → Executed run (T .memory .stamped i g good .o) 21 Notes.nothing t
   read-21 t e = subst (λ (t : ℕ). Executed run (T .memory .stamped i g good .o) 21 Notes.nothing t) (sym e) (T .memory .stamped i g good .read)
 
   -- a change at that instant is this one
-  same-change : (i' j : ℕ) → j < s .memory .item i' .valid → s .memory .item i' .effect-at j ≡ s .memory .item i .effect-at (suc g) → (i' ≡ i) × (j ≡ suc g)
+  same-change : (i' j : ℕ) → j < s .memory .item i' .valid → s .memory .item i' .effect-at j ≡ s .memory .item i .effect-at (suc g) →
+      (i' ≡ i) × (j ≡ suc g)
   same-change i' zero p e =
-      let b : (v z : ℕ) × (past : List Note) × Noted (Notes.registered i' v z) past run × (length past ≡ s .memory .item i' .effect-at 0) = M .births i' (there (split i' (s .memory .items))) in
+      let b : (v z : ℕ) × (past : List Note) × Noted (Notes.registered i' v z) past run × (length past ≡ s .memory .item i' .effect-at 0) =
+          M .births i' (there (split i' (s .memory .items))) in
       let r : Executed run (T .memory .stamped i g good .o) 21 Notes.nothing (s .memory .item i' .effect-at 0) = read-21 _ e in
-      let z : _≡_ {A = ℕ} 101 21 = ap note-line (noted-one (Notes.registered i' (b .0) (b .1)) (Notes.stepped (r .w) 21 Notes.nothing (r .e)) (b .2) (r .past) run (b .3) (r .noted) (b .4 ∙ sym (r .at)) .0) in absurd (omega arith)
+      let z : _≡_ {A = ℕ} 1 3 = ap note-tag (noted-one (Notes.registered i' (b .0) (b .1)) (Notes.stepped (r .w) 21 Notes.nothing (r .e)) (b .2)
+          (r .past) run (b .3) (r .noted) (b .4 ∙ sym (r .at)) .0) in absurd (omega arith)
     where
       there : Split i' (s .memory .items) → i' < s .memory .items
       there (Split.less q) = q
-      there (Split.more q) = absurd (omega (arith, J .kept .memory .unregistered i' q, J .kept .memory .item i' .valid-published))
+      there (Split.more q) = absurd (omega (arith, invariant .kept .memory .unregistered i' q, invariant .kept .memory .item i' .valid-published))
   same-change i' (suc j) p e = (item, version (same? j g))
     where
       S' : Stamping (s .memory .item i') run i' (suc j)
@@ -93,16 +76,24 @@ module _ (s : Catalogue) (J : Invariant s) (run : List Note) (T : Traced s run) 
       same-o = same-event run (S' .read) (read-21 _ e) .2
       when : s .memory .item i' .stamped-at (suc j) ≡ s .memory .item i .stamped-at (suc g)
       when = omega (arith,
-        S' .own-next 22 _ _ (subst (λ (o : ℕ). Executed run o 22 (Notes.stamps i (s .memory .item i .value (suc g))) (s .memory .item i .stamped-at (suc g))) (sym same-o) (T .memory .stamped i g good .stored)) (omega (arith, T .memory .stamped i g good .before)),
-        T .memory .stamped i g good .own-next 22 _ _ (subst (λ (o : ℕ). Executed run o 22 (Notes.stamps i' (s .memory .item i' .value (suc j))) (s .memory .item i' .stamped-at (suc j))) same-o (S' .stored)) (omega (arith, S' .before)))
+        S' .own-next 22 _ _
+            (subst (λ (o : ℕ). Executed run o 22 (Notes.stamps i (s .memory .item i .value (suc g))) (s .memory .item i .stamped-at (suc g))) (sym same-o)
+            (T .memory .stamped i g good .stored)) (omega (arith, T .memory .stamped i g good .before)),
+        T .memory .stamped i g good .own-next 22 _ _
+            (subst (λ (o : ℕ). Executed run o 22 (Notes.stamps i' (s .memory .item i' .value (suc j))) (s .memory .item i' .stamped-at (suc j))) same-o
+            (S' .stored)) (omega (arith, S' .before)))
       item : i' ≡ i
-      item = ap deed-item (same-event run (S' .stored) (subst (λ (t : ℕ). Executed run (T .memory .stamped i g good .o) 22 (Notes.stamps i (s .memory .item i .value (suc g))) t) (sym when) (T .memory .stamped i g good .stored)) .1)
+      item = ap deed-item
+          (same-event run (S' .stored)
+          (subst (λ (t : ℕ). Executed run (T .memory .stamped i g good .o) 22 (Notes.stamps i (s .memory .item i .value (suc g))) t) (sym when)
+          (T .memory .stamped i g good .stored)) .1)
       good' : suc j < s .memory .item i .valid
       good' = subst (λ (n : ℕ). suc j < s .memory .item n .valid) item p
       when' : s .memory .item i .stamped-at (suc j) ≡ s .memory .item i .stamped-at (suc g)
       when' = ap (λ (n : ℕ). s .memory .item n .stamped-at (suc j)) (sym item) ∙ when
       rises : (a b : ℕ) → a < b → b < s .memory .item i .valid → s .memory .item i .stamped-at a < s .memory .item i .stamped-at b
-      rises a b q r = omega (arith, stamped-first (J .kept .memory) i a b q (omega (arith, J .kept .memory .item i .valid-published)), J .kept .memory .item i .effect-after-46 b r, J .kept .memory .item i .effect-before-22 b r)
+      rises a b q r = omega (arith, stamped-first (invariant .kept .memory) i a b q (omega (arith, invariant .kept .memory .item i .valid-published)),
+          invariant .kept .memory .item i .effect-after-46 b r, invariant .kept .memory .item i .effect-before-22 b r)
       version : Same j g → suc j ≡ suc g
       version (eq z) = ap suc z
       version (ne z) = absurd (order (split j g))
@@ -123,7 +114,8 @@ module _ (s : Catalogue) (J : Invariant s) (run : List Note) (T : Traced s run) 
           stamped zero z = omega (arith, H .fetched .no v .0)
           stamped (suc j) z =
               other-line run (T .memory .stamped i' j (omega (arith, H .good)) .stored)
-                (read-21 (s .memory .item i' .stamped-at (suc j)) (ap (s .memory .item i' .stamped-at) (sym z) ∙ omega (arith, H .fetched .no v .1 (H .good), H .at))) (omega arith)
+                (read-21 (s .memory .item i' .stamped-at (suc j)) (ap (s .memory .item i' .stamped-at) (sym z)
+                    ∙ omega (arith, H .fetched .no v .1 (H .good), H .at))) (omega arith)
 
   abbrev place-tag : Place → ℕ
   place-tag unplaced = 0
@@ -138,32 +130,38 @@ module _ (s : Catalogue) (J : Invariant s) (run : List Note) (T : Traced s run) 
   observed-at (observes t a b) = t
 
   -- an operation that saw at that instant lost to this change
-  sees-then : (q t j x : ℕ) → s .place q ≡ observes t j x → t ≡ s .memory .item i .effect-at (suc g) → (op : Operation) → s .fate q .operation ≡ op → EndTraced (s .memory) run q op (s .fate q .lines) (s .place q) →
+  sees-then : (q t j x : ℕ) → s .place q ≡ observes t j x → t ≡ s .memory .item i .effect-at (suc g) → (op : Operation) → s .fate q .operation ≡ op →
+      EndTraced (s .memory) run q op (s .fate q .lines) (s .place q) →
     LostTo run q i (s .memory .item i .published-at (suc g))
-  sees-then q t j x at e (register a b c) w E = absurd (subst (λ (op : Operation). RightAnswer (s .memory) op q (s .fate q .lines) t j x) w (seen q t j x at .seen))
+  sees-then q t j x at e (register a b c) w E =
+      absurd (subst (λ (op : Operation). RightAnswer (s .memory) op q (s .fate q .lines) t j x) w (seen q t j x at .seen))
     where
       seen : (q t j x : ℕ) → s .place q ≡ observes t j x → ObserverRight (s .now) q t j x (s .memory) (s .fate q)
-      seen q t j x at = subst (λ (p : Place). PlaceRight (s .now) q (s .memory) (s .fate q) p) at (J .kept .places q)
+      seen q t j x at = subst (λ (p : Place). PlaceRight (s .now) q (s .memory) (s .fate q) p) at (invariant .kept .places q)
   sees-then q t j x at e (v-read i') w E = absurd (head-not q 37 i' (s .place q) (omega arith) E (sym (ap observed-at (E .is)) ∙ ap observed-at at ∙ e))
   sees-then q t j x at e (v-cas i' a b) w E = by E
     where
       by : CasTraced (s .memory) run q i' (s .fate q .lines) (s .place q) → LostTo run q i (s .memory .item i .published-at (suc g))
       by (ends-43 z H) = absurd (head-not q 41 i' (s .place q) (omega arith) H (sym (ap observed-at (H .is)) ∙ ap observed-at at ∙ e))
       by (ends-48 z k p m) =
-          let c : s .place q ≡ changes i' (suc k) = ap (s .place) (sym m) ∙ J .kept .versions-right i' (suc k) (omega (arith, J .kept .memory .item i' .valid-published)) .valid p in
+          let c : s .place q ≡ changes i' (suc k) = ap (s .place) (sym m)
+              ∙ invariant .kept .versions-right i' (suc k) (omega (arith, invariant .kept .memory .item i' .valid-published)) .valid p in
           let u : _≡_ {A = ℕ} 2 3 = ap place-tag (sym c ∙ at) in absurd (omega arith)
       by (ends-52 z H) =
-          let n : (i' ≡ i) × (suc (H .g) ≡ suc g) = same-change i' (suc (H .g)) (H .good) (sym (H .at) ∙ sym (ap observed-at (H .is)) ∙ ap observed-at at ∙ e) in
+          let n : (i' ≡ i) × (suc (H .g) ≡ suc g) = same-change i' (suc (H .g)) (H .good) (sym (H .at) ∙ sym (ap observed-at (H .is)) ∙ ap observed-at at
+              ∙ e) in
           subst (λ (k : ℕ). LostTo run q i (s .memory .item i .published-at k)) (n .1)
-            (subst (λ (n : ℕ). LostTo run q n (s .memory .item n .published-at (suc (H .g)))) (n .0) (lost-to s J run T q i' (H .g) (H .lost)))
+            (subst (λ (n : ℕ). LostTo run q n (s .memory .item n .published-at (suc (H .g)))) (n .0) (lost-to s invariant run T q i' (H .g) (H .lost)))
   sees-then q t j x at e take-snapshot w E =
-      let O : ObserverRight (s .now) q t j x (s .memory) (s .fate q) = subst (λ (p : Place). PlaceRight (s .now) q (s .memory) (s .fate q) p) at (J .kept .places q) in
-      let y : (x < s .memory .camera .counter) × (s .memory .camera .left-at x ≡ t) = subst (λ (op : Operation). RightAnswer (s .memory) op q (s .fate q .lines) t j x) w (O .seen) in
+      let O : ObserverRight (s .now) q t j x (s .memory) (s .fate q) = subst (λ (p : Place). PlaceRight (s .now) q (s .memory) (s .fate q) p) at
+          (invariant .kept .places q) in
+      let y : (x < s .memory .camera .counter) × (s .memory .camera .left-at x ≡ t) =
+          subst (λ (op : Operation). RightAnswer (s .memory) op q (s .fate q .lines) t j x) w (O .seen) in
       absurd (other-line run (T .memory .left x (y .0) .1) (read-21 (s .memory .camera .left-at x) (y .1 ∙ e)) (omega arith))
   sees-then q t j x at e (read-snapshot i' h) w E = absurd (last-step (M .ends q (O .done)))
     where
       O : ObserverRight (s .now) q t j x (s .memory) (s .fate q)
-      O = subst (λ (p : Place). PlaceRight (s .now) q (s .memory) (s .fate q) p) at (J .kept .places q)
+      O = subst (λ (p : Place). PlaceRight (s .now) q (s .memory) (s .fate q) p) at (invariant .kept .places q)
       ended : suc t ≡ suc (s .fate q .ended-at)
       ended = subst (λ (op : Operation). AtLastStep op t (suc (s .fate q .ended-at))) w (O .last)
       line-is : getD (s .fate q .lines) 0 0 ≡ 34
@@ -174,7 +172,7 @@ module _ (s : Catalogue) (J : Invariant s) (run : List Note) (T : Traced s run) 
   sees-then q t j x at e (total a h) w E = absurd (last-step (M .ends q (O .done)))
     where
       O : ObserverRight (s .now) q t j x (s .memory) (s .fate q)
-      O = subst (λ (p : Place). PlaceRight (s .now) q (s .memory) (s .fate q) p) at (J .kept .places q)
+      O = subst (λ (p : Place). PlaceRight (s .now) q (s .memory) (s .fate q) p) at (invariant .kept .places q)
       R : TotalRead (s .memory) a h q (s .fate q .lines) t x
       R = subst (λ (op : Operation). RightAnswer (s .memory) op q (s .fate q .lines) t j x) w (O .seen)
       ended : suc t ≡ suc (s .fate q .ended-at)
@@ -186,15 +184,19 @@ module _ (s : Catalogue) (J : Invariant s) (run : List Note) (T : Traced s run) 
       last-step (inr (d, z)) = other-line run z (read-21 (s .fate q .ended-at) (omega (arith, ended))) (omega (arith, line-is))
 
   -- all that stands at that instant
-  at-instant : (q : ℕ) → 2 * s .memory .item i .effect-at (suc g) ≤ key-of (s .memory) (s .place q) → key-of (s .memory) (s .place q) ≤ 2 * s .memory .item i .effect-at (suc g) + 1 →
+  at-instant : (q : ℕ) → 2 * s .memory .item i .effect-at (suc g) ≤ key-of (s .memory) (s .place q) →
+      key-of (s .memory) (s .place q) ≤ 2 * s .memory .item i .effect-at (suc g) + 1 →
     (q ≡ s .memory .item i .author (suc g)) ⊎ LostTo run q i (s .memory .item i .published-at (suc g))
   at-instant q a b = by (s .place q) refl a b
     where
       late : 0 < s .memory .item i .effect-at (suc g)
-      late = omega (arith, J .kept .memory .item i .author-before g (omega (arith, good, J .kept .memory .item i .valid-published)), J .kept .memory .item i .effect-after-46 (suc g) good)
+      late = omega (arith, invariant .kept .memory .item i .author-before g (omega (arith, good, invariant .kept .memory .item i .valid-published)),
+          invariant .kept .memory .item i .effect-after-46 (suc g) good)
       right : (p : Place) → s .place q ≡ p → PlaceRight (s .now) q (s .memory) (s .fate q) p
-      right p e = subst (λ (p : Place). PlaceRight (s .now) q (s .memory) (s .fate q) p) e (J .kept .places q)
-      by : (p : Place) → s .place q ≡ p → 2 * s .memory .item i .effect-at (suc g) ≤ key-of (s .memory) p → key-of (s .memory) p ≤ 2 * s .memory .item i .effect-at (suc g) + 1 → (q ≡ s .memory .item i .author (suc g)) ⊎ LostTo run q i (s .memory .item i .published-at (suc g))
+      right p e = subst (λ (p : Place). PlaceRight (s .now) q (s .memory) (s .fate q) p) e (invariant .kept .places q)
+      by : (p : Place) → s .place q ≡ p → 2 * s .memory .item i .effect-at (suc g) ≤ key-of (s .memory) p →
+          key-of (s .memory) p ≤ 2 * s .memory .item i .effect-at (suc g) + 1 → (q ≡ s .memory .item i .author (suc g))
+          ⊎ LostTo run q i (s .memory .item i .published-at (suc g))
       by unplaced e a b = absurd (omega (arith, late))
       by (awaits u v) e a b = absurd (omega (arith, late))
       by (changes u v) e a b =
@@ -234,23 +236,26 @@ module _ (key : ℕ → ℕ) (run : List Note) (c i p o : ℕ) (h : (q : ℕ) �
       by g (later n) (first z) = absurd (omega (arith, f .0 o n, ap key z))
       by g (later n) (later m) = inr (g n m)
 
-module _ (s : Catalogue) (J : Invariant s) (run : List Note) (T : Traced s run) (M : Moments s run) where
-  pub right-after : (o i old new : ℕ) → s .fate o .operation ≡ v-cas i old new → s .fate o .done ≡ true → getD (s .fate o .lines) 0 0 ≡ 52 → Immediately run o i (has-one-order s J .order)
+module _ (s : Catalogue) (invariant : Invariant s) (run : List Note) (T : Traced s run) (M : Moments s run) where
+  pub right-after : (o i old new : ℕ) → s .fate o .operation ≡ v-cas i old new → s .fate o .done ≡ true → getD (s .fate o .lines) 0 0 ≡ 52 →
+      Immediately run o i (has-one-order s invariant .order)
   right-after o i old new w d l = by (subst (λ (op : Operation). EndTraced (s .memory) run o op (s .fate o .lines) (s .place o)) w (T .ends o d))
     where
-      by : CasTraced (s .memory) run o i (s .fate o .lines) (s .place o) → Immediately run o i (has-one-order s J .order)
+      by : CasTraced (s .memory) run o i (s .fate o .lines) (s .place o) → Immediately run o i (has-one-order s invariant .order)
       by (ends-43 z H) = absurd (omega (arith, l, z))
       by (ends-48 z k p m) = absurd (omega (arith, l, z))
       by (ends-52 z H) =
           record {
             c = s .memory .item i .author (suc (H .g)); v = s .memory .item i .value (suc (H .g)); p = s .memory .item i .published-at (suc (H .g));
-            lost = lost-to s J run T o i (H .g) (H .lost); changed = T .memory .published i (H .g) (H .lost .soon);
-            after = older (λ q. key-of (s .memory) (s .place q)) run (s .memory .item i .author (suc (H .g))) i (s .memory .item i .published-at (suc (H .g))) o
-              (λ q a b. at-instant s J run T M i (H .g) (H .good) q (omega (arith, change-key)) (omega (arith, loss-key)))
-              (has-one-order s J .order) (has-one-order s J .keys) (omega (arith, change-key, loss-key))
-              (has-one-order s J .all o (done-past s J o d) d) (has-one-order s J .changed i (suc (H .g)) (H .good)) }
+            lost = lost-to s invariant run T o i (H .g) (H .lost); changed = T .memory .published i (H .g) (H .lost .soon);
+            after = older (λ q. key-of (s .memory) (s .place q)) run (s .memory .item i .author (suc (H .g))) i
+                (s .memory .item i .published-at (suc (H .g))) o
+              (λ q a b. at-instant s invariant run T M i (H .g) (H .good) q (omega (arith, change-key)) (omega (arith, loss-key)))
+              (has-one-order s invariant .order) (has-one-order s invariant .keys) (omega (arith, change-key, loss-key))
+              (has-one-order s invariant .all o (done-past s invariant o d) d) (has-one-order s invariant .changed i (suc (H .g)) (H .good)) }
         where
           loss-key : key-of (s .memory) (s .place o) ≡ 2 * s .memory .item i .effect-at (suc (H .g)) + 1
           loss-key = ap (key-of (s .memory)) (H .is) ∙ ap (λ (t : ℕ). 2 * t + 1) (H .at)
           change-key : key-of (s .memory) (s .place (s .memory .item i .author (suc (H .g)))) ≡ 2 * s .memory .item i .effect-at (suc (H .g))
-          change-key = ap (key-of (s .memory)) (J .kept .versions-right i (suc (H .g)) (omega (arith, H .good, J .kept .memory .item i .valid-published)) .valid (H .good))
+          change-key = ap (key-of (s .memory))
+              (invariant .kept .versions-right i (suc (H .g)) (omega (arith, H .good, invariant .kept .memory .item i .valid-published)) .valid (H .good))

@@ -12,7 +12,8 @@ use Rattle.history.specs.Definition1.{Operation, register, v-read, v-cas
 use Rattle.history.specs.Notes.{Deed, Note}
 use Rattle.history.specs.Notes as Notes
 use Rattle.history.specs.Ledger.{Fate, ledger}
-use Rattle.history.specs.Statements.{Executed, FirstPublish, FirstStamp, HeadInstant, at-fetch, at-stamp, ChangeInstant, LostTo, LossInstant, CasInstant, ends-43, ends-48, ends-52, Instant, In, acts}
+use Rattle.history.specs.Statements.{Executed, FirstPublish, FirstStamp, HeadInstant, at-fetch, at-stamp, ChangeInstant, LostTo, LossInstant,
+    CasInstant, ends-43, ends-48, ends-52, Instant, In, acts}
 use Rattle.history.specs.Statements as Told
 use Rattle.history.specs.Machine.{Item, Memory, Limits, Place, unplaced, awaits, changes, observes, Catalogue, after-calls}
 use Rattle.history.specs.Facts.{Fetched, ItemFacts, MemoryFacts}
@@ -30,35 +31,38 @@ use Rattle.history.specs.TraceRun.{traced}
 
 -- ---- times rise with the versions
 
-module _ {t : ℕ} {m : Memory} (I : MemoryFacts t m) (i : ℕ) where
+module _ {t : ℕ} {m : Memory} (known : MemoryFacts t m) (i : ℕ) where
   -- a version has its stamp before the next is published
   pub stamped-first : (a b : ℕ) → a < b → b < m .item i .versions → m .item i .stamped-at a < m .item i .published-at b
   stamped-first a zero p q = absurd (omega arith)
   stamped-first a (suc b) p q = at (stamped-first a b) (same? a b)
     where
-      at : (a < b → b < m .item i .versions → m .item i .stamped-at a < m .item i .published-at b) → Same a b → m .item i .stamped-at a < m .item i .published-at (suc b)
-      at f (eq e) = subst (λ (a : ℕ). m .item i .stamped-at a < m .item i .published-at (suc b)) (sym e) (I .item i .next b q)
-      at f (ne e) = omega (arith, f (omega arith) (omega arith), I .item i .effect-after-46 b below, I .item i .effect-before-22 b below, I .item i .next b q)
+      at : (a < b → b < m .item i .versions → m .item i .stamped-at a < m .item i .published-at b) → Same a b →
+          m .item i .stamped-at a < m .item i .published-at (suc b)
+      at f (eq e) = subst (λ (a : ℕ). m .item i .stamped-at a < m .item i .published-at (suc b)) (sym e) (known .item i .next b q)
+      at f (ne e) = omega (arith, f (omega arith) (omega arith), known .item i .effect-after-46 b below, known .item i .effect-before-22 b below,
+          known .item i .next b q)
         where
           below : b < m .item i .valid
-          below = omega (arith, I .item i .one-open)
+          below = omega (arith, known .item i .one-open)
 
   pub published-rises : (a b : ℕ) → a < b → b < m .item i .versions → m .item i .published-at a < m .item i .published-at b
-  published-rises a b p q = omega (arith, stamped-first a b p q, I .item i .effect-after-46 a below, I .item i .effect-before-22 a below)
+  published-rises a b p q = omega (arith, stamped-first a b p q, known .item i .effect-after-46 a below, known .item i .effect-before-22 a below)
     where
       below : a < m .item i .valid
-      below = omega (arith, I .item i .one-open)
+      below = omega (arith, known .item i .one-open)
 
   pub stamped-rises : (a b : ℕ) → a ≤ b → b < m .item i .valid → m .item i .stamped-at a ≤ m .item i .stamped-at b
   stamped-rises a b p q = at (same? a b)
     where
       at : Same a b → m .item i .stamped-at a ≤ m .item i .stamped-at b
       at (eq e) = subst (λ (a : ℕ). m .item i .stamped-at a ≤ m .item i .stamped-at b) (sym e) (omega arith)
-      at (ne e) = omega (arith, stamped-first a b (omega arith) (omega (arith, I .item i .valid-published)), I .item i .effect-after-46 b q, I .item i .effect-before-22 b q)
+      at (ne e) = omega (arith, stamped-first a b (omega arith) (omega (arith, known .item i .valid-published)), known .item i .effect-after-46 b q,
+          known .item i .effect-before-22 b q)
 
 -- ---- the instants
 
-module _ (s : Catalogue) (J : Invariant s) (run : List Note) (T : Traced s run) where
+module _ (s : Catalogue) (invariant : Invariant s) (run : List Note) (T : Traced s run) where
   -- version j + 1 has its stamp first after p, if it was published by then
   first-stamp : (i p j : ℕ) → suc j < s .memory .item i .valid → s .memory .item i .published-at (suc j) ≤ p → p < s .memory .item i .stamped-at (suc j) →
     FirstStamp run i p (s .memory .item i .effect-at (suc j)) (s .memory .item i .stamped-at (suc j))
@@ -69,15 +73,19 @@ module _ (s : Catalogue) (J : Invariant s) (run : List Note) (T : Traced s run) 
     where
       S : Stamping (s .memory .item i) run i (suc j)
       S = T .memory .stamped i j g
-      at : (s' : ℕ) → p < s' → (j' : ℕ) × (suc j' < s .memory .item i .valid) × (s' ≡ s .memory .item i .stamped-at (suc j')) → s .memory .item i .stamped-at (suc j) ≤ s'
+      at : (s' : ℕ) → p < s' → (j' : ℕ) × (suc j' < s .memory .item i .valid) × (s' ≡ s .memory .item i .stamped-at (suc j')) →
+          s .memory .item i .stamped-at (suc j) ≤ s'
       at s' q (j', h, e) = by (split j' j)
         where
           by : Split j' j → s .memory .item i .stamped-at (suc j) ≤ s'
-          by (Split.less u) = absurd (omega (arith, stamped-first (J .kept .memory) i (suc j') (suc j) (omega arith) (omega (arith, J .kept .memory .item i .valid-published))))
-          by (Split.more u) = omega (arith, stamped-rises (J .kept .memory) i (suc j) (suc j') (omega arith) h)
+          by (Split.less u) =
+              absurd (omega (arith, stamped-first (invariant .kept .memory) i (suc j') (suc j) (omega arith)
+              (omega (arith, invariant .kept .memory .item i .valid-published))))
+          by (Split.more u) = omega (arith, stamped-rises (invariant .kept .memory) i (suc j) (suc j') (omega arith) h)
 
   -- a head fetched at f, of which the notes tell
-  pub head-instant : (o line i j f τ : ℕ) → FetchedBy (s .memory .item i) run o line i j f → j < s .memory .item i .valid → τ ≡ max f (s .memory .item i .stamped-at j) → HeadInstant run o i line τ
+  pub head-instant : (o line i j f τ : ℕ) → FetchedBy (s .memory .item i) run o line i j f → j < s .memory .item i .valid →
+      τ ≡ max f (s .memory .item i .stamped-at j) → HeadInstant run o i line τ
   head-instant o line i j f τ F g e = at (F .valid) refl
     where
       told : (b : Bool) → F .valid ≡ b → Executed run o line (Notes.fetches i b) f
@@ -90,35 +98,44 @@ module _ (s : Catalogue) (J : Invariant s) (run : List Note) (T : Traced s run) 
           later zero z = absurd (omega (arith, F .no q .0))
           later (suc j') z =
               at-stamp f (s .memory .item i .effect-at (suc j')) (told false q)
-                (subst (λ (t : ℕ). FirstStamp run i f (s .memory .item i .effect-at (suc j')) t) (ap (s .memory .item i .stamped-at) (sym z) ∙ omega (arith, F .no q .1 g))
-                  (first-stamp i f j' (omega arith) (subst (λ (j : ℕ). s .memory .item i .published-at j ≤ f) z (omega (arith, F .got .before))) (subst (λ (j : ℕ). f < s .memory .item i .stamped-at j) z (F .no q .1 g))))
+                (subst (λ (t : ℕ). FirstStamp run i f (s .memory .item i .effect-at (suc j')) t) (ap (s .memory .item i .stamped-at) (sym z)
+                    ∙ omega (arith, F .no q .1 g))
+                  (first-stamp i f j' (omega arith) (subst (λ (j : ℕ). s .memory .item i .published-at j ≤ f) z (omega (arith, F .got .before)))
+                      (subst (λ (j : ℕ). f < s .memory .item i .stamped-at j) z (F .no q .1 g))))
 
-  pub change-instant : (i j : ℕ) → suc j < s .memory .item i .valid → ChangeInstant run (s .memory .item i .author (suc j)) i (s .memory .item i .effect-at (suc j))
+  pub change-instant : (i j : ℕ) → suc j < s .memory .item i .valid → ChangeInstant run (s .memory .item i .author (suc j)) i
+      (s .memory .item i .effect-at (suc j))
   change-instant i j g =
       record {
         v = s .memory .item i .value (suc j); p = s .memory .item i .published-at (suc j); s = s .memory .item i .stamped-at (suc j);
-        published = T .memory .published i j (omega (arith, J .kept .memory .item i .valid-published));
-        stamped = first-stamp i (s .memory .item i .published-at (suc j)) j g (omega arith) (omega (arith, J .kept .memory .item i .effect-after-46 (suc j) g, T .memory .stamped i j g .before)) }
+        published = T .memory .published i j (omega (arith, invariant .kept .memory .item i .valid-published));
+        stamped = first-stamp i (s .memory .item i .published-at (suc j)) j g (omega arith)
+            (omega (arith, invariant .kept .memory .item i .effect-after-46 (suc j) g, T .memory .stamped i j g .before)) }
 
   pub lost-to : (o i g : ℕ) → LostAt (s .memory .item i) run o i g → LostTo run o i (s .memory .item i .published-at (suc g))
   lost-to o i g x =
       record {
         valid = x .fetched .valid; f = x .f; fetched = x .fetched .executed;
         published = record {
-          o = s .memory .item i .author (suc g); v = s .memory .item i .value (suc g); published = T .memory .published i g (x .soon); after = x .fetched .got .next (x .soon);
+          o = s .memory .item i .author (suc g); v = s .memory .item i .value (suc g); published = T .memory .published i g (x .soon);
+              after = x .fetched .got .next (x .soon);
           first = λ o' v' p' e q. at p' q (T .memory .publishes-only o' i v' p' e) } }
     where
-      at : (p' : ℕ) → x .f < p' → (j' : ℕ) × (suc j' < s .memory .item i .versions) × (p' ≡ s .memory .item i .published-at (suc j')) → s .memory .item i .published-at (suc g) ≤ p'
+      at : (p' : ℕ) → x .f < p' → (j' : ℕ) × (suc j' < s .memory .item i .versions) × (p' ≡ s .memory .item i .published-at (suc j')) →
+          s .memory .item i .published-at (suc g) ≤ p'
       at p' q (j', h, e) = by (split (suc j') g) (same? (suc j') g) (same? j' g)
         where
           by : Split (suc j') g → Same (suc j') g → Same j' g → s .memory .item i .published-at (suc g) ≤ p'
-          by (Split.less u) y z = absurd (omega (arith, published-rises (J .kept .memory) i (suc j') g u (x .fetched .got .have), x .fetched .got .before))
+          by (Split.less u) y z =
+              absurd (omega (arith, published-rises (invariant .kept .memory) i (suc j') g u (x .fetched .got .have), x .fetched .got .before))
           by (Split.more u) (eq y) z = absurd (omega (arith, x .fetched .got .before, ap (s .memory .item i .published-at) y))
           by (Split.more u) (ne y) (eq z) = omega (arith, ap (λ (n : ℕ). s .memory .item i .published-at (suc n)) z)
-          by (Split.more u) (ne y) (ne z) = omega (arith, published-rises (J .kept .memory) i (suc g) (suc j') (omega arith) h)
+          by (Split.more u) (ne y) (ne z) = omega (arith, published-rises (invariant .kept .memory) i (suc g) (suc j') (omega arith) h)
 
-  pub loss-instant : (o i g : ℕ) → LostAt (s .memory .item i) run o i g → suc g < s .memory .item i .valid → LossInstant run o i (s .memory .item i .effect-at (suc g))
+  pub loss-instant : (o i g : ℕ) → LostAt (s .memory .item i) run o i g → suc g < s .memory .item i .valid →
+      LossInstant run o i (s .memory .item i .effect-at (suc g))
   loss-instant o i g x v =
       record {
         p = s .memory .item i .published-at (suc g); s = s .memory .item i .stamped-at (suc g); lost = lost-to o i g x;
-        stamped = first-stamp i (s .memory .item i .published-at (suc g)) g v (omega arith) (omega (arith, J .kept .memory .item i .effect-after-46 (suc g) v, T .memory .stamped i g v .before)) }
+        stamped = first-stamp i (s .memory .item i .published-at (suc g)) g v (omega arith)
+            (omega (arith, invariant .kept .memory .item i .effect-after-46 (suc g) v, T .memory .stamped i g v .before)) }

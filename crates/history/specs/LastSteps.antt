@@ -7,7 +7,10 @@ use lib.Dec.{eqb}
 use Rattle.history.specs.Tools.{by-eq, by-lt, by-le}
 use Rattle.history.specs.Notes.{Note}
 use Rattle.history.specs.Effects.{last-step}
-use Rattle.history.specs.Machine.{Memory, node-to-take, Found, no-node, node, on-45, Then, then-39, then-43, then-48, then-52, then-34, then-total-34, Phase, line-37, line-39, line-41, line-43, line-45, line-46, line-48, line-50, line-51, line-52, line-5, line-6, line-32, line-34, total-32, total-34, closing, line-20, line-21, line-22, after, total-at, helped-item, Effect as Change, nothing, counts, publishes, stamps, takes-node, gives-back, Comes, goes-on, ends-with, answers-change, answers, Next, line, Worker, idle, busy}
+use Rattle.history.specs.Machine.{Memory, node-to-take, Found, no-node, node, on-45, Then, then-39, then-43, then-48, then-52, then-34,
+    then-total-34, Phase, line-37, line-39, line-41, line-43, line-45, line-46, line-48, line-50, line-51, line-52, line-5, line-6, line-32, line-34,
+    total-32, total-34, closing, line-20, line-21, line-22, after, total-at, helped-item, Effect as Change, nothing, counts, publishes, stamps,
+    takes-node, gives-back, Comes, goes-on, ends-with, answers-change, answers, Next, line, Worker, idle, busy}
 
 abbrev pub PhaseLast : List Note → ℕ → Phase → Type 0
 PhaseLast run w (line-37 i) = Unit {0}
@@ -77,7 +80,8 @@ module _ (t : ℕ) (m : Memory) (w : ℕ) where
   stamp-last run (line-37 i) x = tt
   stamp-last run (line-39 i f j) x = tt
   stamp-last run (line-41 i a b) x = tt
-  stamp-last run (line-43 i a b f j) x = by-eq (λ (n : Next). StampLast run w (n .does)) (m .item i .value j) a (λ e. by-eq (λ (n : Next). StampLast run w (n .does)) b a (λ q. tt) (λ q. tt)) (λ e. tt)
+  stamp-last run (line-43 i a b f j) x = by-eq (λ (n : Next). StampLast run w (n .does)) (m .item i .value j) a
+      (λ e. by-eq (λ (n : Next). StampLast run w (n .does)) b a (λ q. tt) (λ q. tt)) (λ e. tt)
   stamp-last run (line-45 i a b f j) x = at (node-to-take m)
     where
       at : (g : Found) → StampLast run w (on-45 i a b f j g .does)
@@ -118,7 +122,8 @@ module _ (t : ℕ) (m : Memory) (w : ℕ) where
     line-last (line-37 i) = tt
     line-last (line-39 i f j) = tt
     line-last (line-41 i a b) = tt
-    line-last (line-43 i a b f j) = by-eq (λ (n : Next). ComesLast run w (n .comes)) (m .item i .value j) a (λ e. by-eq (λ (n : Next). ComesLast run w (n .comes)) b a (λ q. tt) (λ q. tt)) (λ e. tt)
+    line-last (line-43 i a b f j) = by-eq (λ (n : Next). ComesLast run w (n .comes)) (m .item i .value j) a
+        (λ e. by-eq (λ (n : Next). ComesLast run w (n .comes)) b a (λ q. tt) (λ q. tt)) (λ e. tt)
     line-last (line-45 i a b f j) = at (node-to-take m)
       where
         at : (g : Found) → ComesLast run w (on-45 i a b f j g .comes)
@@ -134,7 +139,8 @@ module _ (t : ℕ) (m : Memory) (w : ℕ) where
     line-last (line-32 i h) = tt
     line-last (line-34 i h f j y) = by-lt (λ (n : Next). ComesLast run w (n .comes)) h (m .item i .stamp y) (λ e. tt) (λ e. tt)
     line-last (total-32 q h k i u) = by-lt (λ (ph : Phase). PhaseLast run w ph) h (m .item i .stamp 0) (λ e. total-last q h k (suc i) u) (λ e. tt)
-    line-last (total-34 q h k i u f j y) = by-lt (λ (ph : Phase). PhaseLast run w ph) h (m .item i .stamp y) (λ e. tt) (λ e. total-last q h k (suc i) (u + cond (eqb (m .item i .value y) q) (m .item i .size) 0))
+    line-last (total-34 q h k i u f j y) = by-lt (λ (ph : Phase). PhaseLast run w ph) h (m .item i .stamp y) (λ e. tt)
+        (λ e. total-last q h k (suc i) (u + cond (eqb (m .item i .value y) q) (m .item i .size) 0))
     line-last (closing q h k u) = tt
     line-last (line-20 c j) = by-lt (λ (ph : Phase). PhaseLast run w ph) j (m .item (helped-item c) .valid) (λ e. after-last c j) (λ e. tt)
     line-last (line-21 c j) = now

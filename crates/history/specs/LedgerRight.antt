@@ -10,7 +10,9 @@ use Rattle.history.specs.Tools.{put, put-all, put-same, put-other, Same,
 use Rattle.history.specs.Notes.{Note}
 use Rattle.history.specs.Notes as Notes
 use Rattle.history.specs.Ledger.{Fate, ended, turned-away, Ledger, begins, with-fate, step-entered, entered, ledger}
-use Rattle.history.specs.Machine.{Memory, Limits, found, node-to-take, Operation, register, Phase, line-number, Effect, Comes, goes-on, ends-with, answers-change, answers, Next, line, Worker, idle, busy, Catalogue, settle, affect, tick, begun, registered, move, call, fresh, after-calls, first-phase}
+use Rattle.history.specs.Machine.{Memory, Limits, found, node-to-take, Operation, register, Phase, line-number, Effect, Comes, goes-on,
+    ends-with, answers-change, answers, Next, line, Worker, idle, busy, Catalogue, settle, affect, tick, begun, registered, move, call, fresh,
+    after-calls, first-phase}
 use Rattle.history.specs.Places.{Invariant}
 use Rattle.history.specs.Run.{run-right}
 use Rattle.history.specs.MachineNotes.{machine-note, machine-notes, ending, after-step, phase-deed, call-cases}
@@ -41,7 +43,8 @@ module _ (s : Catalogue) (run : List Note) (A : Agrees s run) where
   unfolding tick ledger entered registered ended
   after-register v z y =
       record { now = ap suc (A .now); worker = λ w. keep w (s .worker w) (A .worker w);
-        fate = put-alike (ledger run .fate) (s .fate) (length run) (s .now) _ _ (A .fate) (sym (A .now)) (ap (λ (t : ℕ). ended (begins (register (s .memory .items) v z) 0) (s .memory .items) t []) (sym (A .now))) }
+        fate = put-alike (ledger run .fate) (s .fate) (length run) (s .now) _ _ (A .fate) (sym (A .now))
+            (ap (λ (t : ℕ). ended (begins (register (s .memory .items) v z) 0) (s .memory .items) t []) (sym (A .now))) }
     where
       keep : (w : ℕ) (x : Worker) → InLedger (ledger run) w x → InLedger (ledger (Notes.registered (s .memory .items) v z ∷ run)) w x
       keep w idle k = tt
@@ -56,7 +59,8 @@ module _ (s : Catalogue) (run : List Note) (A : Agrees s run) where
       at : (w' : ℕ) → Same w' w → InLedger (ledger (Notes.started w op ∷ run)) w' (put (s .worker) w (busy (s .now) [] (first-phase (s .memory) op)) w')
       at w' (eq e) = subst (λ (x : Worker). InLedger (ledger (Notes.started w op ∷ run)) w' x) (sym (put-same (s .worker) w _ w' e))
         (put-same (ledger run .current) w (length run) w' e ∙ sym (A .now), put-same (ledger run .lines) w [] w' e)
-      at w' (ne e) = subst (λ (x : Worker). InLedger (ledger (Notes.started w op ∷ run)) w' x) (sym (put-other (s .worker) w _ w' e)) (keep (s .worker w') (A .worker w'))
+      at w' (ne e) = subst (λ (x : Worker). InLedger (ledger (Notes.started w op ∷ run)) w' x) (sym (put-other (s .worker) w _ w' e))
+          (keep (s .worker w') (A .worker w'))
         where
           keep : (x : Worker) → InLedger (ledger run) w' x → InLedger (ledger (Notes.started w op ∷ run)) w' x
           keep idle k = tt
@@ -67,29 +71,41 @@ module _ (s : Catalogue) (run : List Note) (A : Agrees s run) where
     lines-are = ap (λ (l : List ℕ). line-number ph ∷ l) its
 
     -- the worker is idle afterwards, and the others are where they were
-    idle-after : (f : ℕ → Fate) (w' : ℕ) → InLedger (record { fate = f; current = ledger run .current; lines = ledger run .lines }) w' (put (s .worker) w idle w')
-    idle-after f w' = put-all (λ (w' : ℕ) (x : Worker). InLedger (record { fate = f; current = ledger run .current; lines = ledger run .lines }) w' x) (s .worker) w idle w' (λ e. tt) (λ e. keep (s .worker w') (A .worker w'))
+    idle-after : (f : ℕ → Fate) (w' : ℕ) → InLedger (record { fate = f; current = ledger run .current; lines = ledger run .lines }) w'
+        (put (s .worker) w idle w')
+    idle-after f w' = put-all (λ (w' : ℕ) (x : Worker). InLedger (record { fate = f; current = ledger run .current; lines = ledger run .lines }) w' x)
+        (s .worker) w idle w' (λ e. tt) (λ e. keep (s .worker w') (A .worker w'))
       where
         keep : (x : Worker) → InLedger (ledger run) w' x → InLedger (record { fate = f; current = ledger run .current; lines = ledger run .lines }) w' x
         keep idle k = tt
         keep (busy o l ph) k = k
 
-    ended-alike : (x : ℕ) (n : ℕ) → put (ledger run .fate) (ledger run .current w) (ended (ledger run .fate (ledger run .current w)) x (length run) (line-number ph ∷ ledger run .lines w)) n ≡ put (s .fate) o (ended (s .fate o) x (s .now) (line-number ph ∷ l)) n
+    ended-alike : (x : ℕ) (n : ℕ) →
+        put (ledger run .fate) (ledger run .current w)
+        (ended (ledger run .fate (ledger run .current w)) x (length run) (line-number ph ∷ ledger run .lines w)) n ≡ put (s .fate) o
+        (ended (s .fate o) x (s .now) (line-number ph ∷ l)) n
     ended-alike x = put-alike (ledger run .fate) (s .fate) (ledger run .current w) o _ _ (A .fate) cur
-      (ap (λ (f : Fate). ended f x (length run) (line-number ph ∷ ledger run .lines w)) (ap (ledger run .fate) cur ∙ A .fate o) ∙ ap₂ (λ (t : ℕ) (l : List ℕ). ended (s .fate o) x t l) (sym (A .now)) lines-are)
+      (ap (λ (f : Fate). ended f x (length run) (line-number ph ∷ ledger run .lines w)) (ap (ledger run .fate) cur ∙ A .fate o)
+          ∙ ap₂ (λ (t : ℕ) (l : List ℕ). ended (s .fate o) x t l) (sym (A .now)) lines-are)
 
-    refused-alike : (x : ℕ) (n : ℕ) → put (ledger run .fate) (ledger run .current w) (turned-away (ledger run .fate (ledger run .current w)) x (length run) (line-number ph ∷ ledger run .lines w)) n ≡ put (s .fate) o (turned-away (s .fate o) x (s .now) (line-number ph ∷ l)) n
+    refused-alike : (x : ℕ) (n : ℕ) →
+        put (ledger run .fate) (ledger run .current w)
+        (turned-away (ledger run .fate (ledger run .current w)) x (length run) (line-number ph ∷ ledger run .lines w)) n ≡ put (s .fate) o
+        (turned-away (s .fate o) x (s .now) (line-number ph ∷ l)) n
     refused-alike x = put-alike (ledger run .fate) (s .fate) (ledger run .current w) o _ _ (A .fate) cur
-      (ap (λ (f : Fate). turned-away f x (length run) (line-number ph ∷ ledger run .lines w)) (ap (ledger run .fate) cur ∙ A .fate o) ∙ ap₂ (λ (t : ℕ) (l : List ℕ). turned-away (s .fate o) x t l) (sym (A .now)) lines-are)
+      (ap (λ (f : Fate). turned-away f x (length run) (line-number ph ∷ ledger run .lines w)) (ap (ledger run .fate) cur ∙ A .fate o)
+          ∙ ap₂ (λ (t : ℕ) (l : List ℕ). turned-away (s .fate o) x t l) (sym (A .now)) lines-are)
 
-    settled : (d : Notes.Deed) (e : Effect) (u : Comes) → Agrees (tick (settle w o (line-number ph ∷ l) (affect o s e) u)) (Notes.stepped w (line-number ph) d (ending u) ∷ run)
+    settled : (d : Notes.Deed) (e : Effect) (u : Comes) → Agrees (tick (settle w o (line-number ph ∷ l) (affect o s e) u))
+        (Notes.stepped w (line-number ph) d (ending u) ∷ run)
     unfolding tick settle affect ledger entered step-entered
     settled d e (goes-on ph') = record { now = ap suc (A .now); fate = A .fate; worker = λ w'. at w' (same? w' w) }
       where
         L' : Ledger
         L' = record { fate = ledger run .fate; current = ledger run .current; lines = put (ledger run .lines) w (line-number ph ∷ ledger run .lines w) }
         at : (w' : ℕ) → Same w' w → InLedger L' w' (put (s .worker) w (busy o (line-number ph ∷ l) ph') w')
-        at w' (eq q) = subst (λ (x : Worker). InLedger L' w' x) (sym (put-same (s .worker) w _ w' q)) (ap (ledger run .current) q ∙ cur, put-same (ledger run .lines) w _ w' q ∙ lines-are)
+        at w' (eq q) = subst (λ (x : Worker). InLedger L' w' x) (sym (put-same (s .worker) w _ w' q))
+            (ap (ledger run .current) q ∙ cur, put-same (ledger run .lines) w _ w' q ∙ lines-are)
         at w' (ne q) = subst (λ (x : Worker). InLedger L' w' x) (sym (put-other (s .worker) w _ w' q)) (keep (s .worker w') (A .worker w'))
           where
             keep : (x : Worker) → InLedger (ledger run) w' x → InLedger L' w' x
@@ -101,8 +117,8 @@ module _ (s : Catalogue) (run : List Note) (A : Agrees s run) where
 
 call-agrees : (s : Catalogue) (run : List Note) → Invariant s → Agrees s run → (c : Call) → Agrees (call s c) (machine-note s c ∷ run)
 unfolding call
-call-agrees s run J A =
-    call-cases s J (λ (x : Note) (s' : Catalogue). Agrees (tick s') (x ∷ run))
+call-agrees s run invariant A =
+    call-cases s invariant (λ (x : Note) (s' : Catalogue). Agrees (tick s') (x ∷ run))
       (after-refusal s run A)
       (λ v z p. after-register s run A v z (found (node-to-take (s .memory))))
       (λ w op p. after-start s run A w op)

@@ -1,6 +1,7 @@
 pub mod Tools
 pub mod Definition1
 pub mod Notes
+pub mod NoteParts
 pub mod Ledger
 pub mod Effects
 pub mod Statements

@@ -239,7 +239,8 @@ module _ (t : ℕ) (m : Memory) where
   line (closing q h k u) = only (answers u t 0)
   line (line-20 c j) = only (goes-on (cond (ltb j (m .item (helped-item c) .valid)) (after c j) (line-21 c j)))
   line (line-21 c j) = only (goes-on (line-22 c j (m .camera .counter) t))
-  line (line-22 c j n r) = record { does = cond (ltb j (m .item (helped-item c) .valid)) nothing (stamps (helped-item c) j n r); comes = goes-on (after c j) }
+  line (line-22 c j n r) = record { does = cond (ltb j (m .item (helped-item c) .valid)) nothing (stamps (helped-item c) j n r);
+      comes = goes-on (after c j) }
 
 -- ---- the catalogue
 
@@ -314,14 +315,16 @@ module _ (t o : ℕ) where
 
 unfoldable pub affect : ℕ → Catalogue → Effect → Catalogue
 affect o s e =
-    record { now = s .now; memory = memory-after (s .now) o e (s .memory); worker = s .worker; fate = s .fate; place = place-after (s .now) o e (s .memory) (s .place) }
+    record { now = s .now; memory = memory-after (s .now) o e (s .memory); worker = s .worker; fate = s .fate;
+        place = place-after (s .now) o e (s .memory) (s .place) }
 
 -- worker w's operation o, with these lines executed, comes out so
 unfoldable pub settle : (w o : ℕ) → List ℕ → Catalogue → Comes → Catalogue
 unfolding ended
 settle w o l s (goes-on ph) = record { now = s .now; memory = s .memory; worker = put (s .worker) w (busy o l ph); fate = s .fate; place = s .place }
 settle w o l s (ends-with n) =
-    record { now = s .now; memory = s .memory; worker = put (s .worker) w idle; fate = put (s .fate) o (turned-away (s .fate o) n (s .now) l); place = s .place }
+    record { now = s .now; memory = s .memory; worker = put (s .worker) w idle; fate = put (s .fate) o (turned-away (s .fate o) n (s .now) l);
+        place = s .place }
 settle w o l s (answers-change x) =
     record { now = s .now; memory = s .memory; worker = put (s .worker) w idle; fate = put (s .fate) o (ended (s .fate o) x (s .now) l); place = s .place }
 settle w o l s (answers x τ j) =
@@ -418,7 +421,8 @@ registered s v z y =
         item = put (s .memory .item) (s .memory .items) (newborn (s .now) (s .memory .camera .counter) v z y) };
       worker = s .worker;
       fate = put (s .fate) (s .now)
-        (record { operation = register (s .memory .items) v z; worker = 0; done = true; answer = s .memory .items; ended-at = s .now; lines = []; refusal = 0 });
+        (record { operation = register (s .memory .items) v z; worker = 0; done = true; answer = s .memory .items; ended-at = s .now; lines = [];
+            refusal = 0 });
       place = put (s .place) (s .now) (changes (s .memory .items) 0) }
 
 abbrev pub register-refusals : Memory → ℕ → List Refusal

@@ -12,7 +12,11 @@ use Rattle.definitions.specs.Calls.{Call}
 use Rattle.history.specs.Tools.{by-eq, by-test}
 use Rattle.history.specs.Notes.{Deed, fetches, moves, Ending, Note, note-of, step-note, if-accepted}
 use Rattle.history.specs.Notes as Notes
-use Rattle.history.specs.Machine.{Item, Memory, Limits, found, node-to-take, Operation, v-read, v-cas, take-snapshot, read-snapshot, total, Phase, line-37, line-39, line-41, line-43, line-45, line-46, line-48, line-50, line-51, line-52, line-5, line-6, line-32, line-34, total-32, total-34, closing, line-20, line-21, line-22, helped-item, line-number, Comes, goes-on, ends-with, answers-change, answers, Next, line, Worker, idle, busy, Catalogue, settle, affect, Move, refused, unless, is-idle, no-worker, step-answer, step-refusals, worker-refusals, register-refusals, stepped, stepping, begun, starting, registered, registering, move, call, reply, after-calls}
+use Rattle.history.specs.Machine.{Item, Memory, Limits, found, node-to-take, Operation, v-read, v-cas, take-snapshot, read-snapshot, total,
+    Phase, line-37, line-39, line-41, line-43, line-45, line-46, line-48, line-50, line-51, line-52, line-5, line-6, line-32, line-34, total-32,
+    total-34, closing, line-20, line-21, line-22, helped-item, line-number, Comes, goes-on, ends-with, answers-change, answers, Next, line, Worker,
+    idle, busy, Catalogue, settle, affect, Move, refused, unless, is-idle, no-worker, step-answer, step-refusals, worker-refusals, register-refusals,
+    stepped, stepping, begun, starting, registered, registering, move, call, reply, after-calls}
 use Rattle.history.specs.RightAnswers.{phase-operation, RefusedLines, no-node-left, counter-full, ComesRight, LineRight}
 use Rattle.history.specs.EachLine.{every-line}
 use Rattle.history.specs.Places.{Invariant, InOperation, WorkerRight}
@@ -43,7 +47,8 @@ phase-deed m (total-34 q h k i u f j x) = Notes.nothing
 phase-deed m (closing q h k u) = Notes.nothing
 phase-deed m (line-20 c j) = Notes.nothing
 phase-deed m (line-21 c j) = Notes.nothing
-phase-deed m (line-22 c j n r) = cond (ltb j (m .item (helped-item c) .valid)) Notes.nothing (Notes.stamps (helped-item c) (m .item (helped-item c) .value j))
+phase-deed m (line-22 c j n r) = cond (ltb j (m .item (helped-item c) .valid)) Notes.nothing
+    (Notes.stamps (helped-item c) (m .item (helped-item c) .value j))
 
 abbrev pub worker-line : Worker → ℕ
 worker-line idle = 0
@@ -76,9 +81,10 @@ unless-move P s (r ∷ rs) x p f = by-test P (r .when) (λ e. p (r .number)) (λ
 abbrev pub after-step : Catalogue → (w o : ℕ) → List ℕ → Phase → Catalogue
 after-step s w o l ph = settle w o (line-number ph ∷ l) (affect o s (line (s .now) (s .memory) ph .does)) (line (s .now) (s .memory) ph .comes)
 
-module _ (s : Catalogue) (J : Invariant s) (P : Note → Catalogue → Type 0)
+module _ (s : Catalogue) (invariant : Invariant s) (P : Note → Catalogue → Type 0)
   (on-refusal : P Notes.refused s)
-  (on-register : (v z : ℕ) → Passed (register-refusals (s .memory) v) → P (Notes.registered (s .memory .items) v z) (registered s v z (found (node-to-take (s .memory)))))
+  (on-register : (v z : ℕ) → Passed (register-refusals (s .memory) v) →
+      P (Notes.registered (s .memory .items) v z) (registered s v z (found (node-to-take (s .memory)))))
   (on-start : (w : ℕ) (op : Operation) → Passed (worker-refusals s w op) → P (Notes.started w op) (begun s w op))
   (on-step : (w o : ℕ) (l : List ℕ) (ph : Phase) → w < s .memory .limits .workers → s .worker w ≡ busy o l ph →
     P (Notes.stepped w (line-number ph) (phase-deed (s .memory) ph) (ending (line (s .now) (s .memory) ph .comes))) (after-step s w o l ph)) where
@@ -90,10 +96,12 @@ module _ (s : Catalogue) (J : Invariant s) (P : Note → Catalogue → Type 0)
   start-case : (w : ℕ) (op : Operation) → P (if-accepted (starting s w op .answer) (Notes.started w op)) (starting s w op .leaves)
   unfolding starting
   start-case w op =
-      unless-move (λ (y : Move). P (if-accepted (y .answer) (Notes.started w op)) (y .leaves)) s (worker-refusals s w op) (record { answer = accepted 0; leaves = begun s w op })
+      unless-move (λ (y : Move). P (if-accepted (y .answer) (Notes.started w op)) (y .leaves)) s (worker-refusals s w op)
+          (record { answer = accepted 0; leaves = begun s w op })
         (λ n. not-accepted n (Notes.started w op)) (λ x. on-start w op x)
 
-  register-case : (v z : ℕ) → P (if-accepted (registering s v z .answer) (Notes.registered (registering s v z .answer .value) v z)) (registering s v z .leaves)
+  register-case : (v z : ℕ) → P (if-accepted (registering s v z .answer) (Notes.registered (registering s v z .answer .value) v z))
+      (registering s v z .leaves)
   unfolding registering
   register-case v z =
       unless-move (λ (y : Move). P (if-accepted (y .answer) (Notes.registered (y .answer .value) v z)) (y .leaves)) s (register-refusals (s .memory) v)
@@ -101,30 +109,37 @@ module _ (s : Catalogue) (J : Invariant s) (P : Note → Catalogue → Type 0)
         (λ n. not-accepted n (Notes.registered 0 v z)) (λ x. on-register v z x)
 
   -- what a step answers is noted as what it comes to
-  step-noted : (w k : ℕ) (d : Deed) (n : List ℕ) (u : Comes) (op : Operation) (p : Bool) (t o : ℕ) (m : Memory) (s' : Catalogue) → ComesRight t o n m op p u → P (Notes.stepped w k d (ending u)) s' → P (step-note w k d (step-answer n u)) s'
+  step-noted : (w k : ℕ) (d : Deed) (n : List ℕ) (u : Comes) (op : Operation) (p : Bool) (t o : ℕ) (m : Memory) (s' : Catalogue) →
+      ComesRight t o n m op p u → P (Notes.stepped w k d (ending u)) s' → P (step-note w k d (step-answer n u)) s'
   step-noted w k d n (goes-on ph) op p t o m s' c x = x
   step-noted w k d n (answers-change y) op p t o m s' c x = x
   step-noted w k d n (answers y τ j) op p t o m s' c x = x
   step-noted w k d n (ends-with y) op p t o m s' c x = at (c .lines) y refl x
     where
-      at : RefusedLines y op n → (y' : ℕ) → y' ≡ y → P (Notes.stepped w k d (Notes.ends-with y')) s' → P (step-note w k d (step-answer n (ends-with y'))) s'
-      at (no-node-left i a b tbd e f g) y' q x = subst (λ (y : ℕ). P (step-note w k d (step-answer n (ends-with y))) s') (sym (q ∙ e)) (subst (λ (y : ℕ). P (Notes.stepped w k d (Notes.ends-with y)) s') (q ∙ e) x)
-      at (counter-full e f g) y' q x = subst (λ (y : ℕ). P (step-note w k d (step-answer n (ends-with y))) s') (sym (q ∙ e)) (subst (λ (y : ℕ). P (Notes.stepped w k d (Notes.ends-with y)) s') (q ∙ e) x)
+      at : RefusedLines y op n → (y' : ℕ) → y' ≡ y → P (Notes.stepped w k d (Notes.ends-with y')) s' →
+          P (step-note w k d (step-answer n (ends-with y'))) s'
+      at (no-node-left i a b tbd e f g) y' q x = subst (λ (y : ℕ). P (step-note w k d (step-answer n (ends-with y))) s') (sym (q ∙ e))
+          (subst (λ (y : ℕ). P (Notes.stepped w k d (Notes.ends-with y)) s') (q ∙ e) x)
+      at (counter-full e f g) y' q x = subst (λ (y : ℕ). P (step-note w k d (step-answer n (ends-with y))) s') (sym (q ∙ e))
+          (subst (λ (y : ℕ). P (Notes.stepped w k d (Notes.ends-with y)) s') (q ∙ e) x)
 
   step-case : (w : ℕ) → P (step-note w (worker-line (s .worker w)) (worker-deed (s .memory) (s .worker w)) (stepping s w .answer)) (stepping s w .leaves)
   unfolding stepping
-  step-case w = by-test (λ (y : Move). P (step-note w (worker-line (s .worker w)) (worker-deed (s .memory) (s .worker w)) (y .answer)) (y .leaves)) (no-worker s w) (λ e. on-refusal) (λ e. at e (s .worker w) refl)
+  step-case w = by-test (λ (y : Move). P (step-note w (worker-line (s .worker w)) (worker-deed (s .memory) (s .worker w)) (y .answer)) (y .leaves))
+      (no-worker s w) (λ e. on-refusal) (λ e. at e (s .worker w) refl)
     where
       at : T (not (no-worker s w)) → (x : Worker) → s .worker w ≡ x →
-        P (step-note w (worker-line x) (worker-deed (s .memory) x) (cond (is-idle x) (refused s 5) (stepped s w x) .answer)) (cond (is-idle x) (refused s 5) (stepped s w x) .leaves)
+        P (step-note w (worker-line x) (worker-deed (s .memory) x) (cond (is-idle x) (refused s 5) (stepped s w x) .answer))
+            (cond (is-idle x) (refused s 5) (stepped s w x) .leaves)
       at b idle e = on-refusal
       at b (busy o l ph) e = unfold stepped in
-          (step-noted w (line-number ph) (phase-deed (s .memory) ph) (line-number ph ∷ l) (line (s .now) (s .memory) ph .comes) _ _ _ _ _ (after-step s w o l ph)
-            (every-line (s .now) o l (s .memory) (J .kept .memory) (k .begun) ph (k .facts) .comes)
+          (step-noted w (line-number ph) (phase-deed (s .memory) ph) (line-number ph ∷ l) (line (s .now) (s .memory) ph .comes) _ _ _ _ _
+              (after-step s w o l ph)
+            (every-line (s .now) o l (s .memory) (invariant .kept .memory) (k .begun) ph (k .facts) .comes)
             (on-step w o l ph (nleb→lt (s .memory .limits .workers) w b) e))
         where
           k : InOperation (s .now) (s .memory) (s .fate o) (s .place o) w o l ph
-          k = subst (λ (x : Worker). WorkerRight (s .now) (s .memory) (s .fate) (s .place) w x) e (J .workers w)
+          k = subst (λ (x : Worker). WorkerRight (s .now) (s .memory) (s .fate) (s .place) w x) e (invariant .workers w)
 
   pub call-cases : (c : Call) → P (machine-note s c) (move s c .leaves)
   unfolding machine-note reply move

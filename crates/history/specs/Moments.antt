@@ -12,7 +12,9 @@ use Rattle.history.specs.Notes.{Deed, Note}
 use Rattle.history.specs.Notes as Notes
 use Rattle.history.specs.Ledger.{Fate, ended, turned-away, ledger}
 use Rattle.history.specs.Statements.{Noted, Executed}
-use Rattle.history.specs.Machine.{Item, Memory, Limits, found, node-to-take, Operation, register, v-read, v-cas, take-snapshot, read-snapshot, total, Phase, line-number, Comes, goes-on, ends-with, answers-change, answers, line, memory-after, newborn, Worker, busy, Catalogue, settle, affect, tick, begun, registered, call, fresh, after-calls}
+use Rattle.history.specs.Machine.{Item, Memory, Limits, found, node-to-take, Operation, register, v-read, v-cas, take-snapshot, read-snapshot,
+    total, Phase, line-number, Comes, goes-on, ends-with, answers-change, answers, line, memory-after, newborn, Worker, busy, Catalogue, settle,
+    affect, tick, begun, registered, call, fresh, after-calls}
 use Rattle.history.specs.Machine as Machine
 use Rattle.history.specs.Facts.{MemoryFacts, Later}
 use Rattle.history.specs.Changes.{effect-later}
@@ -32,22 +34,25 @@ Ended run o f = (operation-tag (f .operation) ≡ 0) ⊎ ((d : Deed) × Executed
 
 pub record Moments (s : Catalogue) (run : List Note) : Type 0 where
   pub ends : (o : ℕ) → s .fate o .done ≡ true → Ended run o (s .fate o)
-  pub births : (i : ℕ) → i < s .memory .items → (v z : ℕ) × (past : List Note) × Noted (Notes.registered i v z) past run × (length past ≡ s .memory .item i .effect-at 0)
+  pub births : (i : ℕ) → i < s .memory .items → (v z : ℕ) × (past : List Note) × Noted (Notes.registered i v z) past run
+      × (length past ≡ s .memory .item i .effect-at 0)
 
 ended-more : (run : List Note) (x : Note) (o : ℕ) (f : Fate) → Ended run o f → Ended (x ∷ run) o f
 ended-more run x o f (inl e) = inl e
 ended-more run x o f (inr (d, e)) = inr (d, executed-more x e)
 
-module _ (s : Catalogue) (J : Invariant s) (run : List Note) (A : Agrees s run) (M : Moments s run) where
+module _ (s : Catalogue) (invariant : Invariant s) (run : List Note) (A : Agrees s run) (M : Moments s run) where
   -- births in a later memory with no new item
-  born-more : (x : Note) (m' : Memory) → Later (s .now) (s .memory) m' → m' .items ≡ s .memory .items → (i : ℕ) → i < m' .items → (v z : ℕ) × (past : List Note) × Noted (Notes.registered i v z) past (x ∷ run) × (length past ≡ m' .item i .effect-at 0)
+  born-more : (x : Note) (m' : Memory) → Later (s .now) (s .memory) m' → m' .items ≡ s .memory .items → (i : ℕ) → i < m' .items →
+      (v z : ℕ) × (past : List Note) × Noted (Notes.registered i v z) past (x ∷ run) × (length past ≡ m' .item i .effect-at 0)
   born-more x m' L e i p =
-      let b : (v z : ℕ) × (past : List Note) × Noted (Notes.registered i v z) past run × (length past ≡ s .memory .item i .effect-at 0) = M .births i (omega arith) in
-      (b .0, b .1, b .2, inr (b .3), b .4 ∙ sym (L .item i .effect-at 0 (J .kept .memory .registered i (omega arith))))
+      let b : (v z : ℕ) × (past : List Note) × Noted (Notes.registered i v z) past run × (length past ≡ s .memory .item i .effect-at 0) =
+          M .births i (omega arith) in
+      (b .0, b .1, b .2, inr (b .3), b .4 ∙ sym (L .item i .effect-at 0 (invariant .kept .memory .registered i (omega arith))))
 
   stay : Later (s .now) (s .memory) (s .memory)
   unfolding memory-after
-  stay = effect-later (J .kept .memory) 0 take-snapshot false Machine.nothing tt
+  stay = effect-later (invariant .kept .memory) 0 take-snapshot false Machine.nothing tt
 
   after-refusal : Moments (tick s) (Notes.refused ∷ run)
   unfolding tick
@@ -57,14 +62,16 @@ module _ (s : Catalogue) (J : Invariant s) (run : List Note) (A : Agrees s run) 
   unfolding tick begun
   after-start w op =
       record {
-        ends = λ q. put-all (λ (q : ℕ) (f : Fate). f .done ≡ true → Ended (Notes.started w op ∷ run) q f) (s .fate) (s .now) _ q (λ e d. absurd (true≢false (sym d))) (λ e d. ended-more run _ q (s .fate q) (M .ends q d));
+        ends = λ q. put-all (λ (q : ℕ) (f : Fate). f .done ≡ true → Ended (Notes.started w op ∷ run) q f) (s .fate) (s .now) _ q
+            (λ e d. absurd (true≢false (sym d))) (λ e d. ended-more run _ q (s .fate q) (M .ends q d));
         births = born-more (Notes.started w op) (s .memory) stay refl }
 
   after-register : (v z y : ℕ) → Moments (tick (registered s v z y)) (Notes.registered (s .memory .items) v z ∷ run)
   unfolding tick registered
   after-register v z y =
       record {
-        ends = λ q. put-all (λ (q : ℕ) (f : Fate). f .done ≡ true → Ended (x ∷ run) q f) (s .fate) (s .now) _ q (λ e d. inl refl) (λ e d. ended-more run x q (s .fate q) (M .ends q d));
+        ends = λ q. put-all (λ (q : ℕ) (f : Fate). f .done ≡ true → Ended (x ∷ run) q f) (s .fate) (s .now) _ q (λ e d. inl refl)
+            (λ e d. ended-more run x q (s .fate q) (M .ends q d));
         births = λ i p. at i p (same? i (s .memory .items)) }
     where
       x : Note
@@ -73,10 +80,13 @@ module _ (s : Catalogue) (J : Invariant s) (run : List Note) (A : Agrees s run) 
       m' = registered s v z y .memory
       it : Item
       it = newborn (s .now) (s .memory .camera .counter) v z y
-      at : (i : ℕ) → i < suc (s .memory .items) → Same i (s .memory .items) → (v' z' : ℕ) × (past : List Note) × Noted (Notes.registered i v' z') past (Notes.registered (s .memory .items) v z ∷ run) × (length past ≡ put (s .memory .item) (s .memory .items) it i .effect-at 0)
-      at i p (eq e) = (v, z, run, inl (ap (λ (i : ℕ). Notes.registered i v z) e, refl), sym (A .now) ∙ ap (λ (it : Item). it .effect-at 0) (sym (put-same (s .memory .item) (s .memory .items) it i e)))
+      at : (i : ℕ) → i < suc (s .memory .items) → Same i (s .memory .items) → (v' z' : ℕ) × (past : List Note) × Noted (Notes.registered i v' z') past
+          (Notes.registered (s .memory .items) v z ∷ run) × (length past ≡ put (s .memory .item) (s .memory .items) it i .effect-at 0)
+      at i p (eq e) = (v, z, run, inl (ap (λ (i : ℕ). Notes.registered i v z) e, refl), sym (A .now)
+          ∙ ap (λ (it : Item). it .effect-at 0) (sym (put-same (s .memory .item) (s .memory .items) it i e)))
       at i p (ne e) =
-          let b : (v z : ℕ) × (past : List Note) × Noted (Notes.registered i v z) past run × (length past ≡ s .memory .item i .effect-at 0) = M .births i (omega arith) in
+          let b : (v z : ℕ) × (past : List Note) × Noted (Notes.registered i v z) past run × (length past ≡ s .memory .item i .effect-at 0) =
+              M .births i (omega arith) in
           (b .0, b .1, b .2, inr (b .3), b .4 ∙ ap (λ (it : Item). it .effect-at 0) (sym (put-other (s .memory .item) (s .memory .items) it i e)))
 
   module _ (w o : ℕ) (l : List ℕ) (ph : Phase) (is : s .worker w ≡ busy o l ph) where
@@ -90,37 +100,45 @@ module _ (s : Catalogue) (J : Invariant s) (run : List Note) (A : Agrees s run) 
     old-ends x q d = ended-more run x q (s .fate q) (M .ends q d)
 
     -- the operation o ends
-    new-ends : (x : ℕ) (d : Deed) (e : Notes.Ending) (q : ℕ) → put (s .fate) o (ended (s .fate o) x (s .now) (line-number ph ∷ l)) q .done ≡ true → Ended (Notes.stepped w (line-number ph) d e ∷ run) q (put (s .fate) o (ended (s .fate o) x (s .now) (line-number ph ∷ l)) q)
+    new-ends : (x : ℕ) (d : Deed) (e : Notes.Ending) (q : ℕ) → put (s .fate) o (ended (s .fate o) x (s .now) (line-number ph ∷ l)) q .done ≡ true →
+        Ended (Notes.stepped w (line-number ph) d e ∷ run) q (put (s .fate) o (ended (s .fate o) x (s .now) (line-number ph ∷ l)) q)
     unfolding ended
     new-ends x d e q =
-        put-all (λ (q : ℕ) (f : Fate). f .done ≡ true → Ended (Notes.stepped w (line-number ph) d e ∷ run) q f) (s .fate) o (ended (s .fate o) x (s .now) (line-number ph ∷ l)) q
-          (λ z t. inr (d, subst (λ (q : ℕ). Executed (Notes.stepped w (line-number ph) d e ∷ run) q (line-number ph) d (s .now)) (sym z) (here d e))) (λ z t. old-ends _ q t)
+        put-all (λ (q : ℕ) (f : Fate). f .done ≡ true → Ended (Notes.stepped w (line-number ph) d e ∷ run) q f) (s .fate) o
+            (ended (s .fate o) x (s .now) (line-number ph ∷ l)) q
+          (λ z t. inr (d, subst (λ (q : ℕ). Executed (Notes.stepped w (line-number ph) d e ∷ run) q (line-number ph) d (s .now)) (sym z) (here d e)))
+              (λ z t. old-ends _ q t)
 
-    step-ends : (m : Machine.Effect) (d : Deed) (u : Comes) (q : ℕ) → tick (settle w o (line-number ph ∷ l) (affect o s m) u) .fate q .done ≡ true → Ended (Notes.stepped w (line-number ph) d (ending u) ∷ run) q (tick (settle w o (line-number ph ∷ l) (affect o s m) u) .fate q)
+    step-ends : (m : Machine.Effect) (d : Deed) (u : Comes) (q : ℕ) → tick (settle w o (line-number ph ∷ l) (affect o s m) u) .fate q .done ≡ true →
+        Ended (Notes.stepped w (line-number ph) d (ending u) ∷ run) q (tick (settle w o (line-number ph ∷ l) (affect o s m) u) .fate q)
     unfolding tick settle affect turned-away
     step-ends m d (goes-on ph') q t = old-ends _ q t
     step-ends m d (answers-change x) q t = new-ends x d (Notes.answers x) q t
     step-ends m d (answers x τ j) q t = new-ends x d (Notes.answers x) q t
     step-ends m d (ends-with n) q t =
-        put-all (λ (q : ℕ) (f : Fate). f .done ≡ true → Ended (Notes.stepped w (line-number ph) d (Notes.ends-with n) ∷ run) q f) (s .fate) o _ q (λ z t. absurd (true≢false (sym t))) (λ z t. old-ends _ q t) t
+        put-all (λ (q : ℕ) (f : Fate). f .done ≡ true → Ended (Notes.stepped w (line-number ph) d (Notes.ends-with n) ∷ run) q f) (s .fate) o _ q
+            (λ z t. absurd (true≢false (sym t))) (λ z t. old-ends _ q t) t
 
-    after-line : Moments (tick (after-step s w o l ph)) (Notes.stepped w (line-number ph) (phase-deed (s .memory) ph) (ending (line (s .now) (s .memory) ph .comes)) ∷ run)
+    after-line : Moments (tick (after-step s w o l ph))
+        (Notes.stepped w (line-number ph) (phase-deed (s .memory) ph) (ending (line (s .now) (s .memory) ph .comes)) ∷ run)
     after-line =
         record {
           ends = step-ends (line (s .now) (s .memory) ph .does) (phase-deed (s .memory) ph) (line (s .now) (s .memory) ph .comes);
-          births = subst (λ (m : Memory). (i : ℕ) → i < m .items → (v z : ℕ) × (past : List Note) × Noted (Notes.registered i v z) past (x ∷ run) × (length past ≡ m .item i .effect-at 0)) (sym after-memory)
+          births = subst (λ (m : Memory). (i : ℕ) → i < m .items → (v z : ℕ) × (past : List Note) × Noted (Notes.registered i v z) past (x ∷ run)
+              × (length past ≡ m .item i .effect-at 0)) (sym after-memory)
             (born-more x (memory-after (s .now) o (line (s .now) (s .memory) ph .does) (s .memory)) L (same-items (line (s .now) (s .memory) ph .does))) }
       where
         x : Note
         x = Notes.stepped w (line-number ph) (phase-deed (s .memory) ph) (ending (line (s .now) (s .memory) ph .comes))
         K : InOperation (s .now) (s .memory) (s .fate o) (s .place o) w o l ph
-        K = subst (λ (y : Worker). WorkerRight (s .now) (s .memory) (s .fate) (s .place) w y) is (J .workers w)
+        K = subst (λ (y : Worker). WorkerRight (s .now) (s .memory) (s .fate) (s .place) w y) is (invariant .workers w)
         right : LineRight (s .now) o l (s .memory) ph (line (s .now) (s .memory) ph)
-        right = every-line (s .now) o l (s .memory) (J .kept .memory) (K .begun) ph (K .facts)
+        right = every-line (s .now) o l (s .memory) (invariant .kept .memory) (K .begun) ph (K .facts)
         L : Later (s .now) (s .memory) (memory-after (s .now) o (line (s .now) (s .memory) ph .does) (s .memory))
-        L = effect-later (J .kept .memory) o (phase-operation ph) (has-published ph) (line (s .now) (s .memory) ph .does) (right .does)
+        L = effect-later (invariant .kept .memory) o (phase-operation ph) (has-published ph) (line (s .now) (s .memory) ph .does) (right .does)
         after-memory : tick (after-step s w o l ph) .memory ≡ memory-after (s .now) o (line (s .now) (s .memory) ph .does) (s .memory)
-        after-memory = unfold tick affect in (settle-memory w o (line-number ph ∷ l) (affect o s (line (s .now) (s .memory) ph .does)) (line (s .now) (s .memory) ph .comes))
+        after-memory = unfold tick affect in
+            (settle-memory w o (line-number ph ∷ l) (affect o s (line (s .now) (s .memory) ph .does)) (line (s .now) (s .memory) ph .comes))
         same-items : (e : Machine.Effect) → memory-after (s .now) o e (s .memory) .items ≡ s .memory .items
         same-items Machine.nothing = unfold memory-after in refl
         same-items Machine.counts = unfold memory-after in refl
@@ -131,12 +149,12 @@ module _ (s : Catalogue) (J : Invariant s) (run : List Note) (A : Agrees s run) 
 
 call-moments : (s : Catalogue) (run : List Note) → Invariant s → Agrees s run → Moments s run → (c : Call) → Moments (call s c) (machine-note s c ∷ run)
 unfolding call
-call-moments s run J A M =
-    call-cases s J (λ (x : Note) (s' : Catalogue). Moments (tick s') (x ∷ run))
-      (after-refusal s J run A M)
-      (λ v z p. after-register s J run A M v z (found (node-to-take (s .memory))))
-      (λ w op p. after-start s J run A M w op)
-      (λ w o l ph b e. after-line s J run A M w o l ph e)
+call-moments s run invariant A M =
+    call-cases s invariant (λ (x : Note) (s' : Catalogue). Moments (tick s') (x ∷ run))
+      (after-refusal s invariant run A M)
+      (λ v z p. after-register s invariant run A M v z (found (node-to-take (s .memory))))
+      (λ w op p. after-start s invariant run A M w op)
+      (λ w o l ph b e. after-line s invariant run A M w o l ph e)
 
 pub moments : (limits : Limits) (cs : List Call) → Moments (after-calls limits cs) (machine-notes limits cs)
 unfolding after-calls machine-notes fresh

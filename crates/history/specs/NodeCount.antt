@@ -10,7 +10,13 @@ use lib.ListN.{length}
 use Rattle.definitions.specs.Answers.{Refusal, accepted}
 use Rattle.definitions.specs.Calls.{Call}
 use Rattle.history.specs.Tools.{put, put-all, put-same, put-other, by-eq, by-lt, by-le, by-test, Split, split, Same, eq, ne, same?}
-use Rattle.history.specs.Machine.{Item, Memory, Limits, Found, no-node, node, first-free, node-to-take, none-left, found, used-next, all-but-first, one-taken, one-returned, Operation, register, v-read, v-cas, take-snapshot, read-snapshot, total, Then, then-39, then-43, then-48, then-52, then-34, then-total-34, Phase, line-37, line-39, line-41, line-43, line-45, line-46, line-48, line-50, line-51, line-52, line-5, line-6, line-32, line-34, total-32, total-34, closing, line-20, line-21, line-22, after, total-at, helped-item, line-number, Effect, nothing, counts, publishes, stamps, takes-node, gives-back, Comes, goes-on, ends-with, answers-change, answers, Next, only, on-45, line, memory-after, published, stamped, Worker, idle, busy, Catalogue, tick, settle, affect, Move, unless, is-idle, newborn, step-refusals, worker-refusals, register-refusals, stepped, stepping, first-phase, begun, starting, registered, registering, move, call, fresh, after-calls}
+use Rattle.history.specs.Machine.{Item, Memory, Limits, Found, no-node, node, first-free, node-to-take, none-left, found, used-next,
+    all-but-first, one-taken, one-returned, Operation, register, v-read, v-cas, take-snapshot, read-snapshot, total, Then, then-39, then-43, then-48,
+    then-52, then-34, then-total-34, Phase, line-37, line-39, line-41, line-43, line-45, line-46, line-48, line-50, line-51, line-52, line-5, line-6,
+    line-32, line-34, total-32, total-34, closing, line-20, line-21, line-22, after, total-at, helped-item, line-number, Effect, nothing, counts,
+    publishes, stamps, takes-node, gives-back, Comes, goes-on, ends-with, answers-change, answers, Next, only, on-45, line, memory-after, published,
+    stamped, Worker, idle, busy, Catalogue, tick, settle, affect, Move, unless, is-idle, newborn, step-refusals, worker-refusals, register-refusals,
+    stepped, stepping, first-phase, begun, starting, registered, registering, move, call, fresh, after-calls}
 use Rattle.history.specs.Facts.{MemoryFacts, ItemFacts}
 use Rattle.history.specs.Changes.{Allowed, MayPublish}
 use Rattle.history.specs.PhaseFacts.{PhaseFacts}
@@ -135,22 +141,26 @@ line-holds t o l m (line-32 i h) z = refl
 line-holds t o l m (line-34 i h f j x) z = by-lt (LineHolds m (line-34 i h f j x)) h (m .item i .stamp x) (λ e. refl) (λ e. refl)
 line-holds t o l m (total-32 q h k i u) z = by-lt (λ (ph : Phase). holds ph ≡ 0) h (m .item i .stamp 0) (λ e. total-holds q h k (suc i) u) (λ e. refl)
 line-holds t o l m (total-34 q h k i u f j x) z =
-    by-lt (λ (ph : Phase). holds ph ≡ 0) h (m .item i .stamp x) (λ e. refl) (λ e. total-holds q h k (suc i) (u + cond (eqb (m .item i .value x) q) (m .item i .size) 0))
+    by-lt (λ (ph : Phase). holds ph ≡ 0) h (m .item i .stamp x) (λ e. refl)
+        (λ e. total-holds q h k (suc i) (u + cond (eqb (m .item i .value x) q) (m .item i .size) 0))
 line-holds t o l m (closing q h k u) z = refl
 line-holds t o l m (line-20 c j) z = by-lt (λ (ph : Phase). holds ph ≡ 0) j (m .item (helped-item c) .valid) (λ e. after-holds c j) (λ e. refl)
 line-holds t o l m (line-21 c j) z = refl
-line-holds t o l m (line-22 c j n r) z = by-lt (λ (e : Effect). HoldsRight m 0 e (holds (after c j))) j (m .item (helped-item c) .valid) (λ e. after-holds c j) (λ e. after-holds c j)
+line-holds t o l m (line-22 c j n r) z = by-lt (λ (e : Effect). HoldsRight m 0 e (holds (after c j))) j (m .item (helped-item c) .valid)
+    (λ e. after-holds c j) (λ e. after-holds c j)
 
 -- ---- the count
 
 pub record Tally (s : Catalogue) : Type 0 where
-  pub count : sum-to (λ w. worker-holds (s .worker w)) (s .memory .limits .workers) + length (s .memory .pool .given-back) + sum-to (λ i. s .memory .item i .versions) (s .memory .items) ≡ s .memory .pool .used
+  pub count : sum-to (λ w. worker-holds (s .worker w)) (s .memory .limits .workers) + length (s .memory .pool .given-back) + sum-to
+      (λ i. s .memory .item i .versions) (s .memory .items) ≡ s .memory .pool .used
   pub fits : s .memory .pool .used ≤ s .memory .limits .nodes
   pub room : s .memory .items ≤ s .memory .limits .items
   pub within : s .memory .camera .counter ≤ s .memory .limits .counter
 
 -- taking a node
-taken-count : (l : List ℕ) (u n y : ℕ) → first-free l u n ≡ node y → u ≤ n → (used-next l u + length l ≡ suc (u + length (all-but-first l))) × (used-next l u ≤ n)
+taken-count : (l : List ℕ) (u n y : ℕ) → first-free l u n ≡ node y → u ≤ n → (used-next l u + length l ≡ suc (u + length (all-but-first l)))
+    × (used-next l u ≤ n)
 unfolding first-free used-next all-but-first
 taken-count [] u n y e p = (omega arith, by-test (λ (g : Found). g ≡ node y → suc u ≤ n) (ltb u n) (λ t f. ltb→lt u n t) (λ t f. absurd (no-found f)) e)
   where
@@ -168,13 +178,16 @@ settle-memory w o l s (ends-with n) = refl
 settle-memory w o l s (answers-change x) = refl
 settle-memory w o l s (answers x τ j) = refl
 
-settle-worker : (w o : ℕ) (l : List ℕ) (s : Catalogue) (u : Comes) (w' : ℕ) → worker-holds (settle w o l s u .worker w') ≡ put (λ w. worker-holds (s .worker w)) w (comes-holds u) w'
+settle-worker : (w o : ℕ) (l : List ℕ) (s : Catalogue) (u : Comes) (w' : ℕ) → worker-holds (settle w o l s u .worker w') ≡ put
+    (λ w. worker-holds (s .worker w)) w (comes-holds u) w'
 unfolding settle
 settle-worker w o l s u w' = at u (same? w' w)
   where
     at : (u : Comes) → Same w' w → worker-holds (settle w o l s u .worker w') ≡ put (λ w. worker-holds (s .worker w)) w (comes-holds u) w'
-    at (goes-on ph) (eq e) = ap worker-holds (put-same (s .worker) w (busy o l ph) w' e) ∙ sym (put-same (λ w. worker-holds (s .worker w)) w (holds ph) w' e)
-    at (goes-on ph) (ne e) = ap worker-holds (put-other (s .worker) w (busy o l ph) w' e) ∙ sym (put-other (λ w. worker-holds (s .worker w)) w (holds ph) w' e)
+    at (goes-on ph) (eq e) = ap worker-holds (put-same (s .worker) w (busy o l ph) w' e)
+        ∙ sym (put-same (λ w. worker-holds (s .worker w)) w (holds ph) w' e)
+    at (goes-on ph) (ne e) = ap worker-holds (put-other (s .worker) w (busy o l ph) w' e)
+        ∙ sym (put-other (λ w. worker-holds (s .worker w)) w (holds ph) w' e)
     at (ends-with n) (eq e) = ap worker-holds (put-same (s .worker) w idle w' e) ∙ sym (put-same (λ w. worker-holds (s .worker w)) w 0 w' e)
     at (ends-with n) (ne e) = ap worker-holds (put-other (s .worker) w idle w' e) ∙ sym (put-other (λ w. worker-holds (s .worker w)) w 0 w' e)
     at (answers-change x) (eq e) = ap worker-holds (put-same (s .worker) w idle w' e) ∙ sym (put-same (λ w. worker-holds (s .worker w)) w 0 w' e)
@@ -182,7 +195,7 @@ settle-worker w o l s u w' = at u (same? w' w)
     at (answers x τ j) (eq e) = ap worker-holds (put-same (s .worker) w idle w' e) ∙ sym (put-same (λ w. worker-holds (s .worker w)) w 0 w' e)
     at (answers x τ j) (ne e) = ap worker-holds (put-other (s .worker) w idle w' e) ∙ sym (put-other (λ w. worker-holds (s .worker w)) w 0 w' e)
 
-module _ (s : Catalogue) (J : Invariant s) (Y : Tally s) where
+module _ (s : Catalogue) (invariant : Invariant s) (Y : Tally s) where
   m : Memory
   m = s .memory
 
@@ -191,21 +204,27 @@ module _ (s : Catalogue) (J : Invariant s) (Y : Tally s) where
   still = record { count = Y .count; fits = Y .fits; room = Y .room; within = Y .within }
 
   -- the memory after a change: nodes that n workers hold before it and n' after it
-  counted : (o before next n n' : ℕ) (e : Effect) → n' + before ≡ n + next → HoldsRight (s .memory) before e next → (op : Operation) (p : Bool) → Allowed (s .now) o op p (s .memory) e →
+  counted : (o before next n n' : ℕ) (e : Effect) → n' + before ≡ n + next → HoldsRight (s .memory) before e next → (op : Operation) (p : Bool) →
+      Allowed (s .now) o op p (s .memory) e →
     n + length (s .memory .pool .given-back) + sum-to (λ i. s .memory .item i .versions) (s .memory .items) ≡ s .memory .pool .used →
-    (n' + length (memory-after (s .now) o e (s .memory) .pool .given-back) + sum-to (λ i. memory-after (s .now) o e (s .memory) .item i .versions) (memory-after (s .now) o e (s .memory) .items) ≡ memory-after (s .now) o e (s .memory) .pool .used)
+    (n' + length (memory-after (s .now) o e (s .memory) .pool .given-back) + sum-to (λ i. memory-after (s .now) o e (s .memory) .item i .versions)
+        (memory-after (s .now) o e (s .memory) .items) ≡ memory-after (s .now) o e (s .memory) .pool .used)
       × (memory-after (s .now) o e (s .memory) .pool .used ≤ memory-after (s .now) o e (s .memory) .limits .nodes)
   unfolding memory-after one-taken one-returned node-to-take
   counted o before next n n' nothing d h op p a c = (omega arith, Y .fits)
   counted o before next n n' counts d h op p a c = (omega (arith, h .0), Y .fits)
   counted o before next n n' (gives-back y) d h op p a c = (omega (arith, h .0, h .1), Y .fits)
   counted o before next n n' (takes-node i b j y) d h op p a c =
-      let g : (used-next (s .memory .pool .given-back) (s .memory .pool .used) + length (s .memory .pool .given-back) ≡ suc (s .memory .pool .used + length (all-but-first (s .memory .pool .given-back)))) × (used-next (s .memory .pool .given-back) (s .memory .pool .used) ≤ s .memory .limits .nodes) =
+      let g : (used-next (s .memory .pool .given-back) (s .memory .pool .used) + length (s .memory .pool .given-back) ≡ suc
+          (s .memory .pool .used + length (all-but-first (s .memory .pool .given-back))))
+          × (used-next (s .memory .pool .given-back) (s .memory .pool .used) ≤ s .memory .limits .nodes) =
         taken-count (s .memory .pool .given-back) (s .memory .pool .used) (s .memory .limits .nodes) y (h .2) (Y .fits) in
       (omega (arith, h .0, h .1, g .0), g .1)
   counted o before next n n' (stamps i j k r) d h op p a c =
-      (omega (arith, sum-same (λ i. s .memory .item i .versions) (λ i'. put (s .memory .item) i (stamped (s .now) j k r (s .memory .item i)) i' .versions) (s .memory .items)
-        (λ x q. put-all (λ (x : ℕ) (it : Item). it .versions ≡ s .memory .item x .versions) (s .memory .item) i (stamped (s .now) j k r (s .memory .item i)) x (λ e. ap (λ (x : ℕ). s .memory .item x .versions) (sym e)) (λ e. refl))), Y .fits)
+      (omega (arith, sum-same (λ i. s .memory .item i .versions) (λ i'. put (s .memory .item) i (stamped (s .now) j k r (s .memory .item i)) i' .versions)
+          (s .memory .items)
+        (λ x q. put-all (λ (x : ℕ) (it : Item). it .versions ≡ s .memory .item x .versions) (s .memory .item) i
+            (stamped (s .now) j k r (s .memory .item i)) x (λ e. ap (λ (x : ℕ). s .memory .item x .versions) (sym e)) (λ e. refl))), Y .fits)
   counted o before next n n' (publishes i v y) d h op p a c =
       (omega (arith, h .0, h .1, more, new), Y .fits)
     where
@@ -213,14 +232,17 @@ module _ (s : Catalogue) (J : Invariant s) (Y : Tally s) where
       it = published (s .now) o v y (s .memory .item i)
       there : Split i (s .memory .items) → i < s .memory .items
       there (Split.less p) = p
-      there (Split.more p) = absurd (omega (arith, a .is, J .kept .memory .unregistered i p))
-      more : sum-to (λ x. put (s .memory .item) i it x .versions) (s .memory .items) + s .memory .item i .versions ≡ sum-to (λ x. s .memory .item x .versions) (s .memory .items) + put (s .memory .item) i it i .versions
-      more = sum-change (λ x. s .memory .item x .versions) (λ x. put (s .memory .item) i it x .versions) i (s .memory .items) (there (split i (s .memory .items))) (λ x q. ap (λ (it : Item). it .versions) (put-other (s .memory .item) i it x q))
+      there (Split.more p) = absurd (omega (arith, a .is, invariant .kept .memory .unregistered i p))
+      more : sum-to (λ x. put (s .memory .item) i it x .versions) (s .memory .items) + s .memory .item i .versions ≡ sum-to
+          (λ x. s .memory .item x .versions) (s .memory .items) + put (s .memory .item) i it i .versions
+      more = sum-change (λ x. s .memory .item x .versions) (λ x. put (s .memory .item) i it x .versions) i (s .memory .items)
+          (there (split i (s .memory .items))) (λ x q. ap (λ (it : Item). it .versions) (put-other (s .memory .item) i it x q))
       new : put (s .memory .item) i it i .versions ≡ suc (s .memory .item i .versions)
       new = ap (λ (it : Item). it .versions) (put-same (s .memory .item) i it i refl)
 
   limited : (o before next : ℕ) (e : Effect) → HoldsRight (s .memory) before e next →
-    (memory-after (s .now) o e (s .memory) .items ≤ memory-after (s .now) o e (s .memory) .limits .items) × (memory-after (s .now) o e (s .memory) .camera .counter ≤ memory-after (s .now) o e (s .memory) .limits .counter)
+    (memory-after (s .now) o e (s .memory) .items ≤ memory-after (s .now) o e (s .memory) .limits .items)
+        × (memory-after (s .now) o e (s .memory) .camera .counter ≤ memory-after (s .now) o e (s .memory) .limits .counter)
   unfolding memory-after
   limited o before next nothing h = (Y .room, Y .within)
   limited o before next counts h = (Y .room, omega (arith, h .1))
@@ -238,14 +260,17 @@ module _ (s : Catalogue) (J : Invariant s) (Y : Tally s) where
   same-workers o (takes-node i b j y) = refl
   same-workers o (gives-back y) = refl
 
-  step-tally : (w : ℕ) (x : Worker) → s .worker w ≡ x → w < s .memory .limits .workers → WorkerRight (s .now) (s .memory) (s .fate) (s .place) w x → Tally (tick (stepped s w x .leaves))
+  step-tally : (w : ℕ) (x : Worker) → s .worker w ≡ x → w < s .memory .limits .workers → WorkerRight (s .now) (s .memory) (s .fate) (s .place) w x →
+      Tally (tick (stepped s w x .leaves))
   unfolding tick stepped affect
   step-tally w idle e b k = still
   step-tally w (busy o l ph) e b k =
       subst (λ (m : Memory). Counted m) (sym (settle-memory w o (line-number ph ∷ l) (affect o s (x .does)) (x .comes)))
         (record {
-          count = ap (λ (y : Limits). sum-to (λ w. worker-holds (after .worker w)) (y .workers) + length (m' .pool .given-back) + sum-to (λ i. m' .item i .versions) (m' .items)) (same-workers o (x .does)) ∙ c .0;
-          fits = c .1; room = limited o (holds ph) (comes-holds (x .comes)) (x .does) h .0; within = limited o (holds ph) (comes-holds (x .comes)) (x .does) h .1 })
+          count = ap (λ (y : Limits). sum-to (λ w. worker-holds (after .worker w)) (y .workers) + length (m' .pool .given-back) + sum-to
+              (λ i. m' .item i .versions) (m' .items)) (same-workers o (x .does)) ∙ c .0;
+          fits = c .1; room = limited o (holds ph) (comes-holds (x .comes)) (x .does) h .0; within = limited o (holds ph) (comes-holds (x .comes))
+              (x .does) h .1 })
     where
       x : Next
       x = line (s .now) (s .memory) ph
@@ -258,15 +283,20 @@ module _ (s : Catalogue) (J : Invariant s) (Y : Tally s) where
       h : HoldsRight (s .memory) (holds ph) (x .does) (comes-holds (x .comes))
       h = line-holds (s .now) o l (s .memory) ph (k .facts)
       right : LineRight (s .now) o l (s .memory) ph x
-      right = every-line (s .now) o l (s .memory) (J .kept .memory) (k .begun) ph (k .facts)
-      sums : sum-to (λ w. worker-holds (after .worker w)) (s .memory .limits .workers) + holds ph ≡ sum-to (λ w. worker-holds (s .worker w)) (s .memory .limits .workers) + comes-holds (x .comes)
+      right = every-line (s .now) o l (s .memory) (invariant .kept .memory) (k .begun) ph (k .facts)
+      sums : sum-to (λ w. worker-holds (after .worker w)) (s .memory .limits .workers) + holds ph ≡ sum-to (λ w. worker-holds (s .worker w))
+          (s .memory .limits .workers) + comes-holds (x .comes)
       sums =
-          subst (λ (n : ℕ). sum-to (λ w. worker-holds (after .worker w)) (s .memory .limits .workers) + holds ph ≡ sum-to (λ w. worker-holds (s .worker w)) (s .memory .limits .workers) + n)
+          subst (λ (n : ℕ). sum-to (λ w. worker-holds (after .worker w)) (s .memory .limits .workers) + holds ph ≡ sum-to
+              (λ w. worker-holds (s .worker w)) (s .memory .limits .workers) + n)
             (settle-worker w o _ (affect o s (x .does)) (x .comes) w ∙ put-same (λ w. worker-holds (s .worker w)) w (comes-holds (x .comes)) w refl)
-            (subst (λ (n : ℕ). sum-to (λ w. worker-holds (after .worker w)) (s .memory .limits .workers) + n ≡ sum-to (λ w. worker-holds (s .worker w)) (s .memory .limits .workers) + worker-holds (after .worker w)) (ap worker-holds e)
+            (subst (λ (n : ℕ). sum-to (λ w. worker-holds (after .worker w)) (s .memory .limits .workers) + n ≡ sum-to (λ w. worker-holds (s .worker w))
+                (s .memory .limits .workers) + worker-holds (after .worker w)) (ap worker-holds e)
               (sum-change (λ w. worker-holds (s .worker w)) (λ w. worker-holds (after .worker w)) w (s .memory .limits .workers) b
-                (λ w' q. settle-worker w o _ (affect o s (x .does)) (x .comes) w' ∙ put-other (λ w. worker-holds (s .worker w)) w (comes-holds (x .comes)) w' q)))
-      c : (sum-to (λ w. worker-holds (after .worker w)) (s .memory .limits .workers) + length (m' .pool .given-back) + sum-to (λ i. m' .item i .versions) (m' .items) ≡ m' .pool .used) × (m' .pool .used ≤ m' .limits .nodes)
+                (λ w' q. settle-worker w o _ (affect o s (x .does)) (x .comes) w'
+                    ∙ put-other (λ w. worker-holds (s .worker w)) w (comes-holds (x .comes)) w' q)))
+      c : (sum-to (λ w. worker-holds (after .worker w)) (s .memory .limits .workers) + length (m' .pool .given-back) + sum-to (λ i. m' .item i .versions)
+          (m' .items) ≡ m' .pool .used) × (m' .pool .used ≤ m' .limits .nodes)
       c = counted o (holds ph) (comes-holds (x .comes)) _ _ (x .does) sums h (phase-operation ph) (has-published ph) (right .does) (Y .count)
 
   first-holds : (op : Operation) → holds (first-phase (s .memory) op) ≡ 0
@@ -283,7 +313,8 @@ module _ (s : Catalogue) (J : Invariant s) (Y : Tally s) where
   begun-tally w op e =
       record {
         count = ap (λ (n : ℕ). n + length (s .memory .pool .given-back) + sum-to (λ i. s .memory .item i .versions) (s .memory .items))
-          (sum-same (λ w. worker-holds (s .worker w)) _ (s .memory .limits .workers) (λ w' p. put-all (λ (w' : ℕ) (x : Worker). worker-holds x ≡ worker-holds (s .worker w')) (s .worker) w _ w'
+          (sum-same (λ w. worker-holds (s .worker w)) _ (s .memory .limits .workers)
+              (λ w' p. put-all (λ (w' : ℕ) (x : Worker). worker-holds x ≡ worker-holds (s .worker w')) (s .worker) w _ w'
             (λ q. first-holds op ∙ sym (none (s .worker w') (subst (λ (w : ℕ). T (is-idle (s .worker w))) (sym q) e))) (λ q. refl))) ∙ Y .count;
         fits = Y .fits; room = Y .room; within = Y .within }
     where
@@ -303,17 +334,23 @@ module _ (s : Catalogue) (J : Invariant s) (Y : Tally s) where
       there (node y) e t = (y, e)
       y : (y : ℕ) × (node-to-take (s .memory) ≡ node y)
       y = there (node-to-take (s .memory)) refl (x .1 .1 .0)
-      g : (used-next (s .memory .pool .given-back) (s .memory .pool .used) + length (s .memory .pool .given-back) ≡ suc (s .memory .pool .used + length (all-but-first (s .memory .pool .given-back)))) × (used-next (s .memory .pool .given-back) (s .memory .pool .used) ≤ s .memory .limits .nodes)
+      g : (used-next (s .memory .pool .given-back) (s .memory .pool .used) + length (s .memory .pool .given-back) ≡ suc
+          (s .memory .pool .used + length (all-but-first (s .memory .pool .given-back))))
+          × (used-next (s .memory .pool .given-back) (s .memory .pool .used) ≤ s .memory .limits .nodes)
       g = unfold node-to-take in (taken-count (s .memory .pool .given-back) (s .memory .pool .used) (s .memory .limits .nodes) (y .0) (y .1) (Y .fits))
       it : Item
       it = newborn (s .now) (s .memory .camera .counter) v z (found (node-to-take (s .memory)))
-      sums : sum-to (λ i. put (s .memory .item) (s .memory .items) it i .versions) (suc (s .memory .items)) ≡ suc (sum-to (λ i. s .memory .item i .versions) (s .memory .items))
-      sums = unfold sum-to in (ap₂ (λ (a b : ℕ). a + b) (ap (λ (it : Item). it .versions) (put-same (s .memory .item) (s .memory .items) it (s .memory .items) refl))
-        (sum-same (λ i. s .memory .item i .versions) _ (s .memory .items) (λ i p. ap (λ (it : Item). it .versions) (put-other (s .memory .item) (s .memory .items) it i (omega arith)))) ∙ omega arith)
+      sums : sum-to (λ i. put (s .memory .item) (s .memory .items) it i .versions) (suc (s .memory .items)) ≡ suc
+          (sum-to (λ i. s .memory .item i .versions) (s .memory .items))
+      sums = unfold sum-to in
+          (ap₂ (λ (a b : ℕ). a + b) (ap (λ (it : Item). it .versions) (put-same (s .memory .item) (s .memory .items) it (s .memory .items) refl))
+        (sum-same (λ i. s .memory .item i .versions) _ (s .memory .items)
+            (λ i p. ap (λ (it : Item). it .versions) (put-other (s .memory .item) (s .memory .items) it i (omega arith)))) ∙ omega arith)
 
   start-tally : (w : ℕ) (op : Operation) → Tally (tick (starting s w op .leaves))
   unfolding starting
-  start-tally w op = unless-all (λ (s : Catalogue). Tally (tick s)) s (worker-refusals s w op) (record { answer = accepted 0; leaves = begun s w op }) still (λ x. begun-tally w op (not-not (is-idle (s .worker w)) (x .1 .0)))
+  start-tally w op = unless-all (λ (s : Catalogue). Tally (tick s)) s (worker-refusals s w op)
+      (record { answer = accepted 0; leaves = begun s w op }) still (λ x. begun-tally w op (not-not (is-idle (s .worker w)) (x .1 .0)))
     where
       not-not : (b : Bool) → T (not (not b)) → T b
       not-not true t = tt
@@ -323,7 +360,8 @@ module _ (s : Catalogue) (J : Invariant s) (Y : Tally s) where
   unfolding call move registering stepping
   call-tally (Call.make p m n q c) = still
   call-tally (Call.register v z) =
-      unless-all (λ (s : Catalogue). Tally (tick s)) s (register-refusals (s .memory) v) (record { answer = accepted (s .memory .items); leaves = registered s v z (found (node-to-take (s .memory))) }) still (λ x. register-tally v z x)
+      unless-all (λ (s : Catalogue). Tally (tick s)) s (register-refusals (s .memory) v)
+          (record { answer = accepted (s .memory .items); leaves = registered s v z (found (node-to-take (s .memory))) }) still (λ x. register-tally v z x)
   call-tally (Call.v-read w i) = start-tally w (v-read i)
   call-tally (Call.v-cas w i a b) = start-tally w (v-cas i a b)
   call-tally (Call.take-snapshot w) = start-tally w take-snapshot
@@ -331,7 +369,7 @@ module _ (s : Catalogue) (J : Invariant s) (Y : Tally s) where
   call-tally (Call.total w q h) = start-tally w (total q h)
   call-tally (Call.step w) =
       unless-all (λ (s : Catalogue). Tally (tick s)) s (step-refusals s w) (stepped s w (s .worker w)) still
-        (λ x. step-tally w (s .worker w) refl (nleb→lt (s .memory .limits .workers) w (x .0)) (J .workers w))
+        (λ x. step-tally w (s .worker w) refl (nleb→lt (s .memory .limits .workers) w (x .0)) (invariant .workers w))
 
 -- the limits never change
 pub same-limits : (t o : ℕ) (m : Memory) (e : Effect) → memory-after t o e m .limits ≡ m .limits
@@ -347,18 +385,26 @@ step-limits : (s : Catalogue) (w : ℕ) (x : Worker) → stepped s w x .leaves .
 unfolding stepped affect
 step-limits s w idle = refl
 step-limits s w (busy o l ph) =
-    ap (λ (m : Memory). m .limits) (settle-memory w o (line-number ph ∷ l) (affect o s (line (s .now) (s .memory) ph .does)) (line (s .now) (s .memory) ph .comes)) ∙ same-limits (s .now) o (s .memory) (line (s .now) (s .memory) ph .does)
+    ap (λ (m : Memory). m .limits) (settle-memory w o (line-number ph ∷ l) (affect o s (line (s .now) (s .memory) ph .does))
+        (line (s .now) (s .memory) ph .comes)) ∙ same-limits (s .now) o (s .memory) (line (s .now) (s .memory) ph .does)
 
 call-limits : (s : Catalogue) (c : Call) → call s c .memory .limits ≡ s .memory .limits
 unfolding call tick move registering starting stepping registered begun
 call-limits s (Call.make p m n q c) = refl
-call-limits s (Call.register v z) = unless-all (λ (s' : Catalogue). s' .memory .limits ≡ s .memory .limits) s (register-refusals (s .memory) v) (record { answer = accepted (s .memory .items); leaves = registered s v z (found (node-to-take (s .memory))) }) refl (λ x. refl)
-call-limits s (Call.v-read w i) = unless-all (λ (s' : Catalogue). s' .memory .limits ≡ s .memory .limits) s (worker-refusals s w (v-read i)) (record { answer = accepted 0; leaves = begun s w (v-read i) }) refl (λ x. refl)
-call-limits s (Call.v-cas w i a b) = unless-all (λ (s' : Catalogue). s' .memory .limits ≡ s .memory .limits) s (worker-refusals s w (v-cas i a b)) (record { answer = accepted 0; leaves = begun s w (v-cas i a b) }) refl (λ x. refl)
-call-limits s (Call.take-snapshot w) = unless-all (λ (s' : Catalogue). s' .memory .limits ≡ s .memory .limits) s (worker-refusals s w take-snapshot) (record { answer = accepted 0; leaves = begun s w take-snapshot }) refl (λ x. refl)
-call-limits s (Call.read-snapshot w i h) = unless-all (λ (s' : Catalogue). s' .memory .limits ≡ s .memory .limits) s (worker-refusals s w (read-snapshot i h)) (record { answer = accepted 0; leaves = begun s w (read-snapshot i h) }) refl (λ x. refl)
-call-limits s (Call.total w q h) = unless-all (λ (s' : Catalogue). s' .memory .limits ≡ s .memory .limits) s (worker-refusals s w (total q h)) (record { answer = accepted 0; leaves = begun s w (total q h) }) refl (λ x. refl)
-call-limits s (Call.step w) = unless-all (λ (s' : Catalogue). s' .memory .limits ≡ s .memory .limits) s (step-refusals s w) (stepped s w (s .worker w)) refl (λ x. step-limits s w (s .worker w))
+call-limits s (Call.register v z) = unless-all (λ (s' : Catalogue). s' .memory .limits ≡ s .memory .limits) s (register-refusals (s .memory) v)
+    (record { answer = accepted (s .memory .items); leaves = registered s v z (found (node-to-take (s .memory))) }) refl (λ x. refl)
+call-limits s (Call.v-read w i) = unless-all (λ (s' : Catalogue). s' .memory .limits ≡ s .memory .limits) s (worker-refusals s w (v-read i))
+    (record { answer = accepted 0; leaves = begun s w (v-read i) }) refl (λ x. refl)
+call-limits s (Call.v-cas w i a b) = unless-all (λ (s' : Catalogue). s' .memory .limits ≡ s .memory .limits) s (worker-refusals s w (v-cas i a b))
+    (record { answer = accepted 0; leaves = begun s w (v-cas i a b) }) refl (λ x. refl)
+call-limits s (Call.take-snapshot w) = unless-all (λ (s' : Catalogue). s' .memory .limits ≡ s .memory .limits) s (worker-refusals s w take-snapshot)
+    (record { answer = accepted 0; leaves = begun s w take-snapshot }) refl (λ x. refl)
+call-limits s (Call.read-snapshot w i h) = unless-all (λ (s' : Catalogue). s' .memory .limits ≡ s .memory .limits) s
+    (worker-refusals s w (read-snapshot i h)) (record { answer = accepted 0; leaves = begun s w (read-snapshot i h) }) refl (λ x. refl)
+call-limits s (Call.total w q h) = unless-all (λ (s' : Catalogue). s' .memory .limits ≡ s .memory .limits) s (worker-refusals s w (total q h))
+    (record { answer = accepted 0; leaves = begun s w (total q h) }) refl (λ x. refl)
+call-limits s (Call.step w) = unless-all (λ (s' : Catalogue). s' .memory .limits ≡ s .memory .limits) s (step-refusals s w)
+    (stepped s w (s .worker w)) refl (λ x. step-limits s w (s .worker w))
 
 pub limits-kept : (limits : Limits) (cs : List Call) → after-calls limits cs .memory .limits ≡ limits
 unfolding after-calls fresh

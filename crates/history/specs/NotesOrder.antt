@@ -12,7 +12,8 @@ use Rattle.history.specs.Definition1.{Operation, register, v-read, v-cas
 use Rattle.history.specs.Notes.{Deed, Note}
 use Rattle.history.specs.Notes as Notes
 use Rattle.history.specs.Ledger.{Fate, ledger}
-use Rattle.history.specs.Statements.{Executed, FirstPublish, FirstStamp, HeadInstant, at-fetch, at-stamp, ChangeInstant, LostTo, LossInstant, CasInstant, ends-43, ends-48, ends-52, Instant, In, acts}
+use Rattle.history.specs.Statements.{Executed, FirstPublish, FirstStamp, HeadInstant, at-fetch, at-stamp, ChangeInstant, LostTo, LossInstant,
+    CasInstant, ends-43, ends-48, ends-52, Instant, In, acts}
 use Rattle.history.specs.Statements as Told
 use Rattle.history.specs.Machine.{Item, Memory, Limits, Place, unplaced, awaits, changes, observes, Catalogue, after-calls}
 use Rattle.history.specs.Facts.{Fetched, ItemFacts, MemoryFacts}
@@ -31,68 +32,97 @@ use Rattle.history.specs.Trace.{FetchedBy, LostAt, HeadTraced, LossTrace
 use Rattle.history.specs.Trace as Trace
 use Rattle.history.specs.TraceRun.{traced}
 
-module _ (s : Catalogue) (J : Invariant s) (run : List Note) (T : Traced s run) where
+module _ (s : Catalogue) (invariant : Invariant s) (run : List Note) (T : Traced s run) where
   -- the instant of an operation that answered
-  the-instant : (o : ℕ) (op : Operation) → s .fate o .operation ≡ op → s .fate o .done ≡ true → EndTraced (s .memory) run o op (s .fate o .lines) (s .place o) → Instant run o (s .fate o) op (has-one-order s J .time o)
-  the-instant o (register i v z) w d e = has-one-order s J .instants .of-register o i v z w d
-  the-instant o (v-read i) w d e = head-instant s J run T o 37 i (e .j) (e .f) _ (e .fetched) (e .good) (has-one-order s J .placed o ∙ ap (time-of (s .memory)) (e .is) ∙ e .at)
+  the-instant : (o : ℕ) (op : Operation) → s .fate o .operation ≡ op → s .fate o .done ≡ true → EndTraced (s .memory) run o op (s .fate o .lines)
+      (s .place o) → Instant run o (s .fate o) op (has-one-order s invariant .time o)
+  the-instant o (register i v z) w d e = has-one-order s invariant .instants .of-register o i v z w d
+  the-instant o (v-read i) w d e = head-instant s invariant run T o 37 i (e .j) (e .f) _ (e .fetched) (e .good) (has-one-order s invariant .placed o
+      ∙ ap (time-of (s .memory)) (e .is) ∙ e .at)
   the-instant o (v-cas i a b) w d e = at e
     where
-      at : CasTraced (s .memory) run o i (s .fate o .lines) (s .place o) → CasInstant run o i (getD (s .fate o .lines) 0 0) (has-one-order s J .time o)
-      at (Trace.ends-43 q e) = ends-43 q (head-instant s J run T o 41 i (e .j) (e .f) _ (e .fetched) (e .good) (has-one-order s J .placed o ∙ ap (time-of (s .memory)) (e .is) ∙ e .at))
+      at : CasTraced (s .memory) run o i (s .fate o .lines) (s .place o) → CasInstant run o i (getD (s .fate o .lines) 0 0)
+          (has-one-order s invariant .time o)
+      at (Trace.ends-43 q e) =
+          ends-43 q (head-instant s invariant run T o 41 i (e .j) (e .f) _ (e .fetched) (e .good) (has-one-order s invariant .placed o
+          ∙ ap (time-of (s .memory)) (e .is) ∙ e .at))
       at (Trace.ends-48 q j g m) =
-          ends-48 q (subst (λ (τ : ℕ). ChangeInstant run o i τ) (sym (has-one-order s J .placed o ∙ ap (time-of (s .memory)) (ap (s .place) (sym m) ∙ J .kept .versions-right i (suc j) (omega (arith, J .kept .memory .item i .valid-published)) .valid g)))
-            (subst (λ (o : ℕ). ChangeInstant run o i (s .memory .item i .effect-at (suc j))) m (change-instant s J run T i j g)))
-      at (Trace.ends-52 q e) = ends-52 q (subst (λ (τ : ℕ). LossInstant run o i τ) (sym (has-one-order s J .placed o ∙ ap (time-of (s .memory)) (e .is) ∙ e .at)) (loss-instant s J run T o i (e .g) (e .lost) (e .good)))
+          ends-48 q (subst (λ (τ : ℕ). ChangeInstant run o i τ)
+              (sym (has-one-order s invariant .placed o
+              ∙ ap (time-of (s .memory))
+              (ap (s .place) (sym m)
+              ∙ invariant .kept .versions-right i (suc j) (omega (arith, invariant .kept .memory .item i .valid-published)) .valid g)))
+            (subst (λ (o : ℕ). ChangeInstant run o i (s .memory .item i .effect-at (suc j))) m (change-instant s invariant run T i j g)))
+      at (Trace.ends-52 q e) =
+          ends-52 q (subst (λ (τ : ℕ). LossInstant run o i τ) (sym (has-one-order s invariant .placed o ∙ ap (time-of (s .memory)) (e .is) ∙ e .at))
+          (loss-instant s invariant run T o i (e .g) (e .lost) (e .good)))
   the-instant o take-snapshot w d e =
-      let z : (has-one-order s J .time o ≡ s .memory .camera .left-at (s .fate o .answer)) × (s .fate o .answer < s .memory .camera .counter) = has-one-order s J .instants .of-take o w d in
-      let y : (q : ℕ) × Executed run q 6 (Notes.moves (s .fate o .answer)) (s .memory .camera .left-at (s .fate o .answer)) = T .memory .left (s .fate o .answer) (z .1) in
+      let z : (has-one-order s invariant .time o ≡ s .memory .camera .left-at (s .fate o .answer)) × (s .fate o .answer < s .memory .camera .counter) =
+          has-one-order s invariant .instants .of-take o w d in
+      let y : (q : ℕ) × Executed run q 6 (Notes.moves (s .fate o .answer)) (s .memory .camera .left-at (s .fate o .answer)) =
+          T .memory .left (s .fate o .answer) (z .1) in
       (y .0, subst (λ (τ : ℕ). Executed run (y .0) 6 (Notes.moves (s .fate o .answer)) τ) (sym (z .0)) (y .1))
-  the-instant o (read-snapshot i h) w d e = has-one-order s J .instants .of-read-snapshot o i h w d
-  the-instant o (total q h) w d e = has-one-order s J .instants .of-total o q h w d
+  the-instant o (read-snapshot i h) w d e = has-one-order s invariant .instants .of-read-snapshot o i h w d
+  the-instant o (total q h) w d e = has-one-order s invariant .instants .of-total o q h w d
 
-  pending : (A : Agrees s run) (o : ℕ) → Pending s o → Told.Pending run o (has-one-order s J .time o)
+  pending : (A : Agrees s run) (o : ℕ) → Pending s o → Told.Pending run o (has-one-order s invariant .time o)
   pending A o P = at (P .j) refl
     where
       good : P .j < s .memory .item (P .i) .versions
-      good = omega (arith, P .valid, J .kept .memory .item (P .i) .valid-published)
-      at : (j : ℕ) → P .j ≡ j → Told.Pending run o (has-one-order s J .time o)
-      at zero e = let z : _≡_ {A = ℕ} 0 2 = ap operation-tag (sym (ap (asked-for (s .memory .item (P .i)) (P .i)) e) ∙ sym (J .kept .versions-right (P .i) (P .j) good .asked) ∙ ap (λ (o : ℕ). s .fate o .operation) (P .mine) ∙ P .is-cas) in absurd (omega arith)
+      good = omega (arith, P .valid, invariant .kept .memory .item (P .i) .valid-published)
+      at : (j : ℕ) → P .j ≡ j → Told.Pending run o (has-one-order s invariant .time o)
+      at zero e = let z : _≡_ {A = ℕ} 0 2 = ap operation-tag (sym (ap (asked-for (s .memory .item (P .i)) (P .i)) e)
+          ∙ sym (invariant .kept .versions-right (P .i) (P .j) good .asked) ∙ ap (λ (o : ℕ). s .fate o .operation) (P .mine) ∙ P .is-cas) in
+          absurd (omega arith)
       at (suc j) e =
           record {
-            unfinished = ap (λ (f : Fate). f .done) (A .fate o) ∙ P .unfinished; i = P .i; old = P .a; new = P .b; asked = ap (λ (f : Fate). f .operation) (A .fate o) ∙ P .is-cas;
+            unfinished = ap (λ (f : Fate). f .done) (A .fate o) ∙ P .unfinished; i = P .i; old = P .a; new = P .b;
+                asked = ap (λ (f : Fate). f .operation) (A .fate o) ∙ P .is-cas;
             changed = subst (λ (τ : ℕ). ChangeInstant run o (P .i) τ)
-              (sym (has-one-order s J .placed o ∙ ap (time-of (s .memory)) (ap (s .place) (sym (P .mine)) ∙ J .kept .versions-right (P .i) (P .j) good .valid (P .valid)) ∙ ap (s .memory .item (P .i) .effect-at) e))
-              (subst (λ (o : ℕ). ChangeInstant run o (P .i) (s .memory .item (P .i) .effect-at (suc j))) (ap (s .memory .item (P .i) .author) (sym e) ∙ P .mine) (change-instant s J run T (P .i) j (omega (arith, P .valid)))) }
+              (sym (has-one-order s invariant .placed o
+                  ∙ ap (time-of (s .memory)) (ap (s .place) (sym (P .mine)) ∙ invariant .kept .versions-right (P .i) (P .j) good .valid (P .valid))
+                  ∙ ap (s .memory .item (P .i) .effect-at) e))
+              (subst (λ (o : ℕ). ChangeInstant run o (P .i) (s .memory .item (P .i) .effect-at (suc j))) (ap (s .memory .item (P .i) .author) (sym e)
+                  ∙ P .mine) (change-instant s invariant run T (P .i) j (omega (arith, P .valid)))) }
 
   told : Agrees s run → Moments s run → Told.OneOrder run
   told A M =
       record {
-        order = has-one-order s J .order; time = has-one-order s J .time; answer = has-one-order s J .answer; once = has-one-order s J .once; falling = has-one-order s J .falling;
-        all = λ o b d. has-one-order s J .all o (omega (arith, A .now)) (sym (ap (λ (f : Fate). f .done) (A .fate o)) ∙ d);
-        only = λ o i. only o (has-one-order s J .only o i);
-        within = λ o i. within o (has-one-order s J .within o i);
+        order = has-one-order s invariant .order; time = has-one-order s invariant .time; answer = has-one-order s invariant .answer;
+            once = has-one-order s invariant .once; falling = has-one-order s invariant .falling;
+        all = λ o b d. has-one-order s invariant .all o (omega (arith, A .now)) (sym (ap (λ (f : Fate). f .done) (A .fate o)) ∙ d);
+        only = λ o i. only o (has-one-order s invariant .only o i);
+        within = λ o i. within o (has-one-order s invariant .within o i);
         instants = λ o b d. instant o (sym (ap (λ (f : Fate). f .done) (A .fate o)) ∙ d);
-        immediately = λ o i a b w d l. right-after s J run T M o i a b (sym (ap (λ (f : Fate). f .operation) (A .fate o)) ∙ w) (sym (ap (λ (f : Fate). f .done) (A .fate o)) ∙ d) (sym (ap (λ (f : Fate). getD (f .lines) 0 0) (A .fate o)) ∙ l);
-        answered = λ o i d. ap (λ (f : Fate). f .answer) (A .fate o) ∙ has-one-order s J .answered o i (sym (ap (λ (f : Fate). f .done) (A .fate o)) ∙ d);
-        legal = subst (λ (l : List Act). Legal l) (acts-same (has-one-order s J .order)) (has-one-order s J .legal) }
+        immediately = λ o i a b w d l. right-after s invariant run T M o i a b (sym (ap (λ (f : Fate). f .operation) (A .fate o)) ∙ w)
+            (sym (ap (λ (f : Fate). f .done) (A .fate o)) ∙ d) (sym (ap (λ (f : Fate). getD (f .lines) 0 0) (A .fate o)) ∙ l);
+        answered = λ o i d. ap (λ (f : Fate). f .answer) (A .fate o)
+            ∙ has-one-order s invariant .answered o i (sym (ap (λ (f : Fate). f .done) (A .fate o)) ∙ d);
+        legal = subst (λ (l : List Act). Legal l) (acts-same (has-one-order s invariant .order)) (has-one-order s invariant .legal) }
     where
-      only : (o : ℕ) → (s .fate o .done ≡ true) ⊎ Pending s o → (ledger run .fate o .done ≡ true) ⊎ Told.Pending run o (has-one-order s J .time o)
+      only : (o : ℕ) → (s .fate o .done ≡ true) ⊎ Pending s o → (ledger run .fate o .done ≡ true) ⊎ Told.Pending run o (has-one-order s invariant .time o)
       only o (inl d) = inl (ap (λ (f : Fate). f .done) (A .fate o) ∙ d)
       only o (inr p) = inr (pending A o p)
-      within : (o : ℕ) → Within s o (has-one-order s J .time o) → Told.Within (ledger run .fate o) o (has-one-order s J .time o)
-      within o (inside a b) = Told.inside a (λ d. subst (λ (f : Fate). has-one-order s J .time o ≤ f .ended-at) (sym (A .fate o)) (b (sym (ap (λ (f : Fate). f .done) (A .fate o)) ∙ d)))
-      within o (in-call i v z a b c) = Told.in-call i v z (ap (λ (f : Fate). f .operation) (A .fate o) ∙ a) b (ap (λ (f : Fate). f .ended-at) (A .fate o) ∙ c)
-      instant : (o : ℕ) → s .fate o .done ≡ true → Instant run o (ledger run .fate o) (ledger run .fate o .operation) (has-one-order s J .time o)
-      instant o d = subst (λ (f : Fate). Instant run o f (f .operation) (has-one-order s J .time o)) (sym (A .fate o)) (the-instant o (s .fate o .operation) refl d (T .ends o d))
-      acts-same : (l : List ℕ) → acts (λ o. s .fate o .operation) (has-one-order s J .answer) l ≡ acts (λ o. ledger run .fate o .operation) (has-one-order s J .answer) l
+      within : (o : ℕ) → Within s o (has-one-order s invariant .time o) → Told.Within (ledger run .fate o) o (has-one-order s invariant .time o)
+      within o (inside a b) = Told.inside a (λ d. subst (λ (f : Fate). has-one-order s invariant .time o ≤ f .ended-at) (sym (A .fate o))
+          (b (sym (ap (λ (f : Fate). f .done) (A .fate o)) ∙ d)))
+      within o (in-call i v z a b c) = Told.in-call i v z (ap (λ (f : Fate). f .operation) (A .fate o) ∙ a) b (ap (λ (f : Fate). f .ended-at) (A .fate o)
+          ∙ c)
+      instant : (o : ℕ) → s .fate o .done ≡ true → Instant run o (ledger run .fate o) (ledger run .fate o .operation) (has-one-order s invariant .time o)
+      instant o d = subst (λ (f : Fate). Instant run o f (f .operation) (has-one-order s invariant .time o)) (sym (A .fate o))
+          (the-instant o (s .fate o .operation) refl d (T .ends o d))
+      acts-same : (l : List ℕ) → acts (λ o. s .fate o .operation) (has-one-order s invariant .answer) l ≡ acts (λ o. ledger run .fate o .operation)
+          (has-one-order s invariant .answer) l
       acts-same [] = refl
-      acts-same (o ∷ l) = ap₂ (λ (op : Operation) (r : List Act). record { operation = op; answer = has-one-order s J .answer o } ∷ r) (ap (λ (f : Fate). f .operation) (sym (A .fate o))) (acts-same l)
+      acts-same (o ∷ l) = ap₂ (λ (op : Operation) (r : List Act). record { operation = op; answer = has-one-order s invariant .answer o } ∷ r)
+          (ap (λ (f : Fate). f .operation) (sym (A .fate o))) (acts-same l)
 
 -- demand 2, for the notes of every run of the machine
 pub notes-order : (limits : Limits) (cs : List Call) → Told.OneOrder (machine-notes limits cs)
-notes-order limits cs = told (after-calls limits cs) (run-right limits cs) (machine-notes limits cs) (traced limits cs) (agrees limits cs) (moments limits cs)
+notes-order limits cs = told (after-calls limits cs) (run-right limits cs) (machine-notes limits cs) (traced limits cs) (agrees limits cs)
+    (moments limits cs)
 
-pub notes-order-is : (limits : Limits) (cs : List Call) → notes-order limits cs .order ≡ order-to (after-calls limits cs .memory) (after-calls limits cs .place) (after-calls limits cs .now) (2 * after-calls limits cs .now)
+pub notes-order-is : (limits : Limits) (cs : List Call) → notes-order limits cs .order ≡ order-to (after-calls limits cs .memory)
+    (after-calls limits cs .place) (after-calls limits cs .now) (2 * after-calls limits cs .now)
 unfolding notes-order told
 notes-order-is limits cs = order-is (after-calls limits cs) (run-right limits cs)

@@ -1,4 +1,5 @@
--- The one order of a run of the machine of versions: a legal sequential history of the finished operations, and of the unfinished changes that have taken effect.
+-- The one order of a run of the machine of versions: a legal sequential history of the finished operations, and of the unfinished changes that have taken
+-- effect.
 use mathlib.Core.Path.{_≡_, refl}
 use mathlib.Core.Logic.{_≢_, _⊎_, inl, inr}
 use mathlib.Core.Bool.{Bool, true, false}
@@ -7,7 +8,8 @@ use Prim.Native.Nat.{ℕ, zero, suc, _+_, _*_, _≤_, _<_}
 use Rattle.history.specs.Definition1.{Legal}
 pub use Rattle.history.specs.Statements.{In, first, later, Once, Falling, acts}
 use Rattle.history.specs.RightAnswers.{AtHead, AtLoss}
-use Rattle.history.specs.Machine.{Operation, register, v-read, v-cas, take-snapshot, read-snapshot, total, Memory, Place, unplaced, awaits, changes, observes, Catalogue}
+use Rattle.history.specs.Machine.{Operation, register, v-read, v-cas, take-snapshot, read-snapshot, total, Memory, Place, unplaced, awaits,
+    changes, observes, Catalogue}
 
 -- an unfinished vCAS whose version has a valid stamp
 pub record Pending (s : Catalogue) (o : ℕ) : Type 0 where
@@ -48,7 +50,8 @@ pub record Instants (s : Catalogue) (time : ℕ → ℕ) : Type 0 where
   pub of-register : (o i v z : ℕ) → s .fate o .operation ≡ register i v z → s .fate o .done ≡ true → time o ≡ o
   pub of-read : (o i : ℕ) → s .fate o .operation ≡ v-read i → s .fate o .done ≡ true → (j : ℕ) × AtHead (s .memory .item i) o (time o) j
   pub of-cas : (o i a b : ℕ) → s .fate o .operation ≡ v-cas i a b → s .fate o .done ≡ true → CasInstant s o (time o) i
-  pub of-take : (o : ℕ) → s .fate o .operation ≡ take-snapshot → s .fate o .done ≡ true → (time o ≡ s .memory .camera .left-at (s .fate o .answer)) × (s .fate o .answer < s .memory .camera .counter)
+  pub of-take : (o : ℕ) → s .fate o .operation ≡ take-snapshot → s .fate o .done ≡ true → (time o ≡ s .memory .camera .left-at (s .fate o .answer))
+      × (s .fate o .answer < s .memory .camera .counter)
   pub of-read-snapshot : (o i h : ℕ) → s .fate o .operation ≡ read-snapshot i h → s .fate o .done ≡ true → time o ≡ s .fate o .ended-at
   pub of-total : (o p h : ℕ) → s .fate o .operation ≡ total p h → s .fate o .done ≡ true → time o ≡ s .fate o .ended-at
 

@@ -7,11 +7,13 @@ use Prim.Native.Nat.{ℕ, zero, suc, pred, _+_, _*_, _≤_, _<_, max, min}
 use native.Mathlib.Omega.{arith}
 use lib.Dec.{T, eqb, eqb→eq, eqb-refl}
 use Rattle.history.specs.Tools.{put, put-all, put-same, put-other, by-eq, by-test, Split, split, Same, eq, ne, same?}
-use Rattle.history.specs.Machine.{Item, Camera, Memory, Operation, register, v-read, v-cas, take-snapshot, read-snapshot, total, Place, unplaced, awaits, changes, observes, Fate, Catalogue}
+use Rattle.history.specs.Machine.{Item, Camera, Memory, Operation, register, v-read, v-cas, take-snapshot, read-snapshot, total, Place,
+    unplaced, awaits, changes, observes, Fate, Catalogue}
 use Rattle.history.specs.Facts.{Sees, Sum, empty, skip, plus, ItemFacts, MemoryFacts}
 use Rattle.history.specs.RightAnswers.{RightAnswer, CasSees, differs, same, SnapshotRead, TotalRead, AtHead, AtLoss, AtLastStep, change-answer}
 use Rattle.history.specs.Places.{asked-for, VersionRight, ChangeRight, ObserverRight, PlaceRight, Kept, Moved, Invariant, not-observing}
-use Rattle.history.specs.Definition1.{Act, changed, value-of, one-more, items-of, sized, size-of, total-to, Took, ReadBack, TotalBack, SnapshotRight, TotalRight, TakeRight, Right, Legal}
+use Rattle.history.specs.Definition1.{Act, changed, value-of, one-more, items-of, sized, size-of, total-to, Took, ReadBack, TotalBack,
+    SnapshotRight, TotalRight, TakeRight, Right, Legal}
 use Rattle.history.specs.OneOrder.{In, first, later, Once, Falling, acts, time-of, key-of}
 
 -- ---- keys
@@ -61,7 +63,7 @@ abbrev pub shown-value : Item → ℕ → ℕ
 shown-value it zero = 0
 shown-value it (suc j) = it .value j
 
-module _ (s : Catalogue) (J : Invariant s) where
+module _ (s : Catalogue) (invariant : Invariant s) where
   unfoldable pub acts-of : List ℕ → List Act
   acts-of l = acts (λ o. s .fate o .operation) (λ o. answer-at (s .fate o .operation) (s .place o)) l
 
@@ -116,7 +118,8 @@ module _ (s : Catalogue) (J : Invariant s) where
   listed-skip {k} {n} {l} A d =
       record {
         once = A .once; below = A .below; falling = A .falling; keys = A .keys;
-        memory = λ o i. let p : Keyed k n o = A .memory o i in record { key = p .key; has = p .has; le = p .le; lt = λ e. omega (arith, p .lt e); begun = p .begun };
+        memory = λ o i. let p : Keyed k n o = A .memory o i in
+            record { key = p .key; has = p .has; le = p .le; lt = λ e. omega (arith, p .lt e); begun = p .begun };
         here = λ o u v. at o u v (same? o n) }
     where
       at : (o : ℕ) → o < suc n → T (keyed (s .memory) (s .place o) k) → Same o n → In o l
@@ -126,16 +129,21 @@ module _ (s : Catalogue) (J : Invariant s) where
   pub listed-take : {k n : ℕ} {l : List ℕ} → Listed k n l → n < s .now → T (keyed (s .memory) (s .place n) k) → Listed k (suc n) (n ∷ l)
   listed-take {k} {n} {l} A b x =
       record {
-        once = (λ i. let p : Keyed k n n = A .memory n i in absurd (omega (arith, p .lt (key-unique (s .memory) (s .place n) (p .key) k (p .has) x))), A .once);
+        once = (λ i. let p : Keyed k n n = A .memory n i in absurd (omega (arith, p .lt (key-unique (s .memory) (s .place n) (p .key) k (p .has) x))),
+            A .once);
         below = λ o c u v w. later (A .below o c u v w);
-        falling = (λ q i. let p : Keyed k n q = A .memory q i in omega (arith, key-time (s .memory) (s .place q) (p .key) (p .has) .0, p .le, key-time (s .memory) (s .place n) k x .1), A .falling);
-        keys = (λ q i. let p : Keyed k n q = A .memory q i in omega (arith, key-is (s .memory) (s .place q) (p .key) (p .has), p .le, key-is (s .memory) (s .place n) k x), A .keys);
+        falling = (λ q i. let p : Keyed k n q = A .memory q i in
+            omega (arith, key-time (s .memory) (s .place q) (p .key) (p .has) .0, p .le, key-time (s .memory) (s .place n) k x .1), A .falling);
+        keys = (λ q i. let p : Keyed k n q = A .memory q i in
+            omega (arith, key-is (s .memory) (s .place q) (p .key) (p .has), p .le, key-is (s .memory) (s .place n) k x), A .keys);
         memory = λ o i. put o i;
         here = λ o u v. at o u v (same? o n) }
     where
       put : (o : ℕ) → In o (n ∷ l) → Keyed k (suc n) o
-      put o (first e) = record { key = k; has = subst (λ (o : ℕ). T (keyed (s .memory) (s .place o) k)) (sym e) x; le = omega arith; lt = λ z. omega arith; begun = omega arith }
-      put o (later i) = let p : Keyed k n o = A .memory o i in record { key = p .key; has = p .has; le = p .le; lt = λ e. omega (arith, p .lt e); begun = p .begun }
+      put o (first e) = record { key = k; has = subst (λ (o : ℕ). T (keyed (s .memory) (s .place o) k)) (sym e) x; le = omega arith;
+          lt = λ z. omega arith; begun = omega arith }
+      put o (later i) = let p : Keyed k n o = A .memory o i in
+          record { key = p .key; has = p .has; le = p .le; lt = λ e. omega (arith, p .lt e); begun = p .begun }
       at : (o : ℕ) → o < suc n → T (keyed (s .memory) (s .place o) k) → Same o n → In o (n ∷ l)
       at o u v (eq e) = first e
       at o u v (ne e) = later (A .here o (omega arith) v)
@@ -144,7 +152,8 @@ module _ (s : Catalogue) (J : Invariant s) where
   listed-next {k} {l} A =
       record {
         once = A .once; falling = A .falling; keys = A .keys;
-        memory = λ o i. let p : Keyed k (s .now) o = A .memory o i in record { key = p .key; has = p .has; le = omega (arith, p .le); lt = λ e. omega (arith, p .le); begun = p .begun };
+        memory = λ o i. let p : Keyed k (s .now) o = A .memory o i in
+            record { key = p .key; has = p .has; le = omega (arith, p .le); lt = λ e. omega (arith, p .le); begun = p .begun };
         below = λ o c u v w. at o c u v w (same? c k);
         here = λ o u v. absurd (omega arith) }
     where
@@ -154,43 +163,54 @@ module _ (s : Catalogue) (J : Invariant s) where
 
   -- ---- what the list shows
 
-  pub change-key : (i j : ℕ) → j < s .memory .item i .valid → T (keyed (s .memory) (s .place (s .memory .item i .author j)) (2 * s .memory .item i .effect-at j))
-  change-key i j p = subst (λ (x : Place). T (keyed (s .memory) x (2 * s .memory .item i .effect-at j))) (sym (J .kept .versions-right i j (omega (arith, J .kept .memory .item i .valid-published)) .valid p)) (eqb-refl (2 * s .memory .item i .effect-at j))
+  pub change-key : (i j : ℕ) → j < s .memory .item i .valid →
+      T (keyed (s .memory) (s .place (s .memory .item i .author j)) (2 * s .memory .item i .effect-at j))
+  change-key i j p = subst (λ (x : Place). T (keyed (s .memory) x (2 * s .memory .item i .effect-at j)))
+      (sym (invariant .kept .versions-right i j (omega (arith, invariant .kept .memory .item i .valid-published)) .valid p))
+      (eqb-refl (2 * s .memory .item i .effect-at j))
 
   pub effect-next : (i j : ℕ) → suc j < s .memory .item i .valid → s .memory .item i .effect-at j < s .memory .item i .effect-at (suc j)
-  effect-next i j p = omega (arith, J .kept .memory .item i .effect-before-22 j (omega arith), J .kept .memory .item i .next j (omega (arith, J .kept .memory .item i .valid-published)), J .kept .memory .item i .effect-after-46 (suc j) p)
+  effect-next i j p = omega (arith, invariant .kept .memory .item i .effect-before-22 j (omega arith), invariant .kept .memory .item i .next j
+      (omega (arith, invariant .kept .memory .item i .valid-published)), invariant .kept .memory .item i .effect-after-46 (suc j) p)
 
   pub effects-rise : (i c j : ℕ) → c < j → j < s .memory .item i .valid → s .memory .item i .effect-at c < s .memory .item i .effect-at j
   effects-rise i c zero p q = absurd (omega arith)
   effects-rise i c (suc j) p q = at (effects-rise i c j) (same? c j)
     where
-      at : (c < j → j < s .memory .item i .valid → s .memory .item i .effect-at c < s .memory .item i .effect-at j) → Same c j → s .memory .item i .effect-at c < s .memory .item i .effect-at (suc j)
+      at : (c < j → j < s .memory .item i .valid → s .memory .item i .effect-at c < s .memory .item i .effect-at j) → Same c j →
+          s .memory .item i .effect-at c < s .memory .item i .effect-at (suc j)
       at f (eq e) = subst (λ (c : ℕ). s .memory .item i .effect-at c < s .memory .item i .effect-at (suc j)) (sym e) (effect-next i j q)
       at f (ne e) = omega (arith, f (omega arith) (omega arith), effect-next i j q)
 
   pub author-past : (i j : ℕ) → j < s .memory .item i .valid → s .memory .item i .author j < s .now
-  author-past i j p = omega (arith, J .kept .memory .item i .author-first j (omega (arith, J .kept .memory .item i .valid-published)), J .kept .memory .item i .published-past j (omega (arith, J .kept .memory .item i .valid-published)))
+  author-past i j p = omega (arith, invariant .kept .memory .item i .author-first j (omega (arith, invariant .kept .memory .item i .valid-published)),
+      invariant .kept .memory .item i .published-past j (omega (arith, invariant .kept .memory .item i .valid-published)))
 
   pub shown-skip : {k n : ℕ} {l : List ℕ} → Shown k n l → (T (keyed (s .memory) (s .place n) k) → ⊥) → Shown k (suc n) l
   shown-skip {k} {n} {l} B d =
       record {
-        shown = B .shown; shown-valid = B .shown-valid; before = B .before; after = B .after; value = B .value; items = B .items; items-is = B .items-is; low = B .low; high = B .high; sizes = B .sizes; snaps = B .snaps; legal = B .legal;
+        shown = B .shown; shown-valid = B .shown-valid; before = B .before; after = B .after; value = B .value; items = B .items; items-is = B .items-is;
+            low = B .low; high = B .high; sizes = B .sizes; snaps = B .snaps; legal = B .legal;
         before-same = λ i j p e. omega (arith, B .before-same i j p e);
         after-same = λ i j p q e. omega (arith, B .after-same i j p q e, other i j q e) }
     where
       other : (i j : ℕ) → j < s .memory .item i .valid → 2 * s .memory .item i .effect-at j ≡ k → s .memory .item i .author j ≢ n
-      other i j q e z = d (subst (λ (o : ℕ). T (keyed (s .memory) (s .place o) k)) z (subst (λ (c : ℕ). T (keyed (s .memory) (s .place (s .memory .item i .author j)) c)) e (change-key i j q)))
+      other i j q e z =
+          d (subst (λ (o : ℕ). T (keyed (s .memory) (s .place o) k)) z
+          (subst (λ (c : ℕ). T (keyed (s .memory) (s .place (s .memory .item i .author j)) c)) e (change-key i j q)))
 
   pub shown-next : {k : ℕ} {l : List ℕ} → Shown k (s .now) l → Shown (suc k) 0 l
   shown-next {k} {l} B =
       record {
-        shown = B .shown; shown-valid = B .shown-valid; value = B .value; items = B .items; items-is = B .items-is; low = B .low; high = B .high; sizes = B .sizes; snaps = B .snaps; legal = B .legal;
+        shown = B .shown; shown-valid = B .shown-valid; value = B .value; items = B .items; items-is = B .items-is; low = B .low; high = B .high;
+            sizes = B .sizes; snaps = B .snaps; legal = B .legal;
         before = λ i j p. omega (arith, B .before i j p);
         before-same = λ i j p e. absurd (omega (arith, B .before i j p));
         after = λ i j p q. at i j p q (same? (2 * s .memory .item i .effect-at j) k);
         after-same = λ i j p q e. omega arith }
     where
-      at : (i j : ℕ) → B .shown i ≤ j → j < s .memory .item i .valid → Same (2 * s .memory .item i .effect-at j) k → suc k ≤ 2 * s .memory .item i .effect-at j
+      at : (i j : ℕ) → B .shown i ≤ j → j < s .memory .item i .valid → Same (2 * s .memory .item i .effect-at j) k →
+          suc k ≤ 2 * s .memory .item i .effect-at j
       at i j p q (eq e) = absurd (omega (arith, B .after-same i j p q e, author-past i j q))
       at i j p q (ne e) = omega (arith, B .after i j p q)
 
@@ -203,7 +223,8 @@ module _ (s : Catalogue) (J : Invariant s) where
       at (Split.less u) (Split.less v) = absurd (omega (arith, B .before i (suc j) v, x .not-yet (omega (arith, B .shown-valid i))))
       at (Split.less u) (Split.more v) = omega arith
 
-  pub shown-is : {k n τ : ℕ} {l : List ℕ} (B : Shown k n l) → 2 * τ + 1 ≡ k → (i j : ℕ) → Sees (s .memory .item i) τ j → value-of i (acts-of l) ≡ s .memory .item i .value j
+  pub shown-is : {k n τ : ℕ} {l : List ℕ} (B : Shown k n l) → 2 * τ + 1 ≡ k → (i j : ℕ) → Sees (s .memory .item i) τ j →
+      value-of i (acts-of l) ≡ s .memory .item i .value j
   shown-is B q i j x = B .value i ∙ ap (shown-value (s .memory .item i)) (sees-shown B q i j x)
 
   -- ---- from the acts back to the operations
@@ -211,15 +232,20 @@ module _ (s : Catalogue) (J : Invariant s) where
   pub find-read : (i h x : ℕ) (l : List ℕ) → ReadBack i h x (acts-of l) → (o : ℕ) × In o l × (s .fate o .operation ≡ read-snapshot i h)
   unfolding acts-of
   find-read i h x (o ∷ l) (ReadBack.here a e f) = (o, first refl, e)
-  find-read i h x (o ∷ l) (ReadBack.earlier a r) = let y : (o : ℕ) × In o l × (s .fate o .operation ≡ read-snapshot i h) = find-read i h x l r in (y .0, later (y .1), y .2)
+  find-read i h x (o ∷ l) (ReadBack.earlier a r) = let y : (o : ℕ) × In o l × (s .fate o .operation ≡ read-snapshot i h) = find-read i h x l r in
+      (y .0, later (y .1), y .2)
 
   pub find-total : (p h x : ℕ) (l : List ℕ) → TotalBack p h x (acts-of l) → (o : ℕ) × In o l × (s .fate o .operation ≡ total p h)
   unfolding acts-of
   find-total i h x (o ∷ l) (TotalBack.here a e f) = (o, first refl, e)
-  find-total i h x (o ∷ l) (TotalBack.earlier a r) = let y : (o : ℕ) × In o l × (s .fate o .operation ≡ total i h) = find-total i h x l r in (y .0, later (y .1), y .2)
+  find-total i h x (o ∷ l) (TotalBack.earlier a r) = let y : (o : ℕ) × In o l × (s .fate o .operation ≡ total i h) = find-total i h x l r in
+      (y .0, later (y .1), y .2)
 
-  pub find-take : (o h : ℕ) (l : List ℕ) → In o l → s .fate o .operation ≡ take-snapshot → answer-at (s .fate o .operation) (s .place o) ≡ h → (p : List Act) × Took h p (acts-of l)
+  pub find-take : (o h : ℕ) (l : List ℕ) → In o l → s .fate o .operation ≡ take-snapshot → answer-at (s .fate o .operation) (s .place o) ≡ h →
+      (p : List Act) × Took h p (acts-of l)
   unfolding acts-of
-  find-take o h (q ∷ l) (first e) w a = (acts-of l, Took.here _ (ap (λ (o : ℕ). s .fate o .operation) (sym e) ∙ w) (ap (λ (o : ℕ). answer-at (s .fate o .operation) (s .place o)) (sym e) ∙ a))
+  find-take o h (q ∷ l) (first e) w a =
+      (acts-of l, Took.here _ (ap (λ (o : ℕ). s .fate o .operation) (sym e) ∙ w) (ap (λ (o : ℕ). answer-at (s .fate o .operation) (s .place o)) (sym e)
+      ∙ a))
   find-take o h (q ∷ l) (later i) w a = let y : (p : List Act) × Took h p (acts-of l) = find-take o h l i w a in (y .0, Took.earlier _ (y .1))
 

@@ -7,13 +7,16 @@ use Prim.Native.Nat.{ℕ, zero, suc, pred, _+_, _*_, _≤_, _<_, max, min}
 use native.Mathlib.Omega.{arith}
 use lib.Dec.{T, eqb, eqb→eq, eqb-refl}
 use Rattle.history.specs.Tools.{put, put-all, put-same, put-other, by-eq, by-test, Split, split, Same, eq, ne, same?}
-use Rattle.history.specs.Machine.{Item, Camera, Memory, Operation, register, v-read, v-cas, take-snapshot, read-snapshot, total, Place, unplaced, awaits, changes, observes, Fate, Catalogue}
+use Rattle.history.specs.Machine.{Item, Camera, Memory, Operation, register, v-read, v-cas, take-snapshot, read-snapshot, total, Place,
+    unplaced, awaits, changes, observes, Fate, Catalogue}
 use Rattle.history.specs.Facts.{Sees, Sum, empty, skip, plus, ItemFacts, MemoryFacts}
 use Rattle.history.specs.RightAnswers.{RightAnswer, CasSees, differs, same, SnapshotRead, TotalRead, AtHead, AtLoss, AtLastStep, change-answer}
 use Rattle.history.specs.Places.{asked-for, VersionRight, ChangeRight, ObserverRight, PlaceRight, Kept, Moved, Invariant, not-observing}
-use Rattle.history.specs.Definition1.{Act, changed, value-of, one-more, items-of, sized, size-of, total-to, Took, ReadBack, TotalBack, SnapshotRight, TotalRight, TakeRight, Right, Legal}
+use Rattle.history.specs.Definition1.{Act, changed, value-of, one-more, items-of, sized, size-of, total-to, Took, ReadBack, TotalBack,
+    SnapshotRight, TotalRight, TakeRight, Right, Legal}
 use Rattle.history.specs.OneOrder.{In, first, later, Once, Falling, acts}
-use Rattle.history.specs.OrderList.{keyed, answer-at, shown-value, acts-of, Keyed, Listed, Shot, Shown, change-key, effects-rise, author-past, sees-shown, shown-is, find-read, find-total, find-take}
+use Rattle.history.specs.OrderList.{keyed, answer-at, shown-value, acts-of, Keyed, Listed, Shot, Shown, change-key, effects-rise, author-past,
+    sees-shown, shown-is, find-read, find-total, find-take}
 
 abbrev pub operation-tag : Operation → ℕ
 operation-tag (register i v z) = 0
@@ -33,23 +36,29 @@ pub asked-tag : (it : Item) (i j : ℕ) → operation-tag (asked-for it i j) ≤
 asked-tag it i zero = omega arith
 asked-tag it i (suc j) = omega arith
 
-module _ (s : Catalogue) (J : Invariant s) where
+module _ (s : Catalogue) (invariant : Invariant s) where
   pub change-operation : (o i j : ℕ) → s .place o ≡ changes i j → s .fate o .operation ≡ asked-for (s .memory .item i) i j
   change-operation o i j e =
-      let C : ChangeRight (s .now) o i j (s .memory) (s .fate o) = subst (λ (p : Place). PlaceRight (s .now) o (s .memory) (s .fate o) p) e (J .kept .places o) in
-      subst (λ (o : ℕ). s .fate o .operation ≡ asked-for (s .memory .item i) i j) (C .mine) (J .kept .versions-right i j (omega (arith, C .good, J .kept .memory .item i .valid-published)) .asked)
+      let C : ChangeRight (s .now) o i j (s .memory) (s .fate o) = subst (λ (p : Place). PlaceRight (s .now) o (s .memory) (s .fate o) p) e
+          (invariant .kept .places o) in
+      subst (λ (o : ℕ). s .fate o .operation ≡ asked-for (s .memory .item i) i j) (C .mine)
+          (invariant .kept .versions-right i j (omega (arith, C .good, invariant .kept .memory .item i .valid-published)) .asked)
 
   -- a readSnapshot in the list comes after the counter left its handle
-  pub read-late : (k o i h : ℕ) → T (keyed (s .memory) (s .place o) k) → s .fate o .operation ≡ read-snapshot i h → 2 * s .memory .camera .left-at h + 1 < k
+  pub read-late : (k o i h : ℕ) → T (keyed (s .memory) (s .place o) k) → s .fate o .operation ≡ read-snapshot i h →
+      2 * s .memory .camera .left-at h + 1 < k
   read-late k o i h x w = at (s .place o) refl x
     where
       at : (p : Place) → s .place o ≡ p → T (keyed (s .memory) p k) → 2 * s .memory .camera .left-at h + 1 < k
       at unplaced e x = absurd x
       at (awaits a b) e x = absurd x
-      at (changes a b) e x = let z : 4 ≤ 2 = subst (λ (n : ℕ). n ≤ 2) (ap operation-tag (sym (change-operation o a b e) ∙ w)) (asked-tag (s .memory .item a) a b) in absurd (omega arith)
+      at (changes a b) e x = let z : 4 ≤ 2 = subst (λ (n : ℕ). n ≤ 2) (ap operation-tag (sym (change-operation o a b e) ∙ w))
+          (asked-tag (s .memory .item a) a b) in absurd (omega arith)
       at (observes τ j y) e x =
-          let O : ObserverRight (s .now) o τ j y (s .memory) (s .fate o) = subst (λ (p : Place). PlaceRight (s .now) o (s .memory) (s .fate o) p) e (J .kept .places o) in
-          let R : SnapshotRead (s .memory) i h o (s .fate o .lines) τ j y = subst (λ (operation : Operation). RightAnswer (s .memory) operation o (s .fate o .lines) τ j y) w (O .seen) in
+          let O : ObserverRight (s .now) o τ j y (s .memory) (s .fate o) = subst (λ (p : Place). PlaceRight (s .now) o (s .memory) (s .fate o) p) e
+              (invariant .kept .places o) in
+          let R : SnapshotRead (s .memory) i h o (s .fate o .lines) τ j y =
+              subst (λ (operation : Operation). RightAnswer (s .memory) operation o (s .fate o .lines) τ j y) w (O .seen) in
           omega (arith, eqb→eq _ k x, O .since, R .read .when)
 
   pub total-late : (k o i h : ℕ) → T (keyed (s .memory) (s .place o) k) → s .fate o .operation ≡ total i h → 2 * s .memory .camera .left-at h + 1 < k
@@ -58,14 +67,18 @@ module _ (s : Catalogue) (J : Invariant s) where
       at : (p : Place) → s .place o ≡ p → T (keyed (s .memory) p k) → 2 * s .memory .camera .left-at h + 1 < k
       at unplaced e x = absurd x
       at (awaits a b) e x = absurd x
-      at (changes a b) e x = let z : 5 ≤ 2 = subst (λ (n : ℕ). n ≤ 2) (ap operation-tag (sym (change-operation o a b e) ∙ w)) (asked-tag (s .memory .item a) a b) in absurd (omega arith)
+      at (changes a b) e x = let z : 5 ≤ 2 = subst (λ (n : ℕ). n ≤ 2) (ap operation-tag (sym (change-operation o a b e) ∙ w))
+          (asked-tag (s .memory .item a) a b) in absurd (omega arith)
       at (observes τ j y) e x =
-          let O : ObserverRight (s .now) o τ j y (s .memory) (s .fate o) = subst (λ (p : Place). PlaceRight (s .now) o (s .memory) (s .fate o) p) e (J .kept .places o) in
-          let R : TotalRead (s .memory) i h o (s .fate o .lines) τ y = subst (λ (operation : Operation). RightAnswer (s .memory) operation o (s .fate o .lines) τ j y) w (O .seen) in
+          let O : ObserverRight (s .now) o τ j y (s .memory) (s .fate o) = subst (λ (p : Place). PlaceRight (s .now) o (s .memory) (s .fate o) p) e
+              (invariant .kept .places o) in
+          let R : TotalRead (s .memory) i h o (s .fate o .lines) τ y =
+              subst (λ (operation : Operation). RightAnswer (s .memory) operation o (s .fate o .lines) τ j y) w (O .seen) in
           omega (arith, eqb→eq _ k x, O .since, R .when)
 
   -- the sum that a total made is the sum over the items there were when the counter left h
-  pub sum-is : (p h : ℕ) (q : List Act) → h < s .memory .camera .counter → Shot s J h q → {o e y u : ℕ} {l : List ℕ} → Sum (s .memory) p h o e y u l → u ≡ total-to (min y (items-of q)) p q
+  pub sum-is : (p h : ℕ) (q : List Act) → h < s .memory .camera .counter → Shot s invariant h q → {o e y u : ℕ} {l : List ℕ} →
+      Sum (s .memory) p h o e y u l → u ≡ total-to (min y (items-of q)) p q
   unfolding total-to
   sum-is p h q g S empty = subst (λ (n : ℕ). 0 ≡ total-to n p q) none-yet refl
     where
@@ -74,7 +87,7 @@ module _ (s : Catalogue) (J : Invariant s) where
   sum-is p h q g S (skip {i} {u} {l} o x a) = sum-is p h q g S a ∙ ap (λ (n : ℕ). total-to n p q) (at (split i (items-of q)))
     where
       at : Split i (items-of q) → min i (items-of q) ≡ min (suc i) (items-of q)
-      at (Split.less b) = absurd (omega (arith, S .low i b, J .kept .memory .item i .counted 0 o .past h x))
+      at (Split.less b) = absurd (omega (arith, S .low i b, invariant .kept .memory .item i .counted 0 o .past h x))
       at (Split.more b) = omega arith
   sum-is p h q g S (plus {i} {u} {l} j r x a) = at (sum-is p h q g S a) (split i (items-of q))
     where
@@ -83,12 +96,14 @@ module _ (s : Catalogue) (J : Invariant s) where
         where
           at0 : Same 0 j → s .memory .item i .effect-at 0 ≤ s .memory .camera .left-at h
           at0 (eq e) = subst (λ (j : ℕ). s .memory .item i .effect-at j ≤ s .memory .camera .left-at h) (sym e) (x .sees .begun)
-          at0 (ne e) = omega (arith, effects-rise s J i 0 j (omega arith) (x .sees .have), x .sees .begun)
-      at : u ≡ total-to (min i (items-of q)) p q → Split i (items-of q) → u + cond (eqb (s .memory .item i .value j) p) (s .memory .item i .size) 0 ≡ total-to (min (suc i) (items-of q)) p q
+          at0 (ne e) = omega (arith, effects-rise s invariant i 0 j (omega arith) (x .sees .have), x .sees .begun)
+      at : u ≡ total-to (min i (items-of q)) p q → Split i (items-of q) →
+          u + cond (eqb (s .memory .item i .value j) p) (s .memory .item i .size) 0 ≡ total-to (min (suc i) (items-of q)) p q
       at e (Split.more b) = absurd (omega (arith, S .high i b (omega (arith, x .sees .have)), born))
       at e (Split.less b) =
           subst (λ (n : ℕ). u + cond (eqb (s .memory .item i .value j) p) (s .memory .item i .size) 0 ≡ total-to n p q) (m1)
-            (ap₂ (λ (a b : ℕ). a + b) (e ∙ ap (λ (n : ℕ). total-to n p q) m2) (ap₂ (λ (v z : ℕ). cond (eqb v p) z 0) (sym (S .value i j (x .sees))) (sym (S .sizes i b))))
+            (ap₂ (λ (a b : ℕ). a + b) (e ∙ ap (λ (n : ℕ). total-to n p q) m2)
+                (ap₂ (λ (v z : ℕ). cond (eqb v p) z 0) (sym (S .value i j (x .sees))) (sym (S .sizes i b))))
         where
           m1 : suc i ≡ min (suc i) (items-of q)
           m1 = omega arith
@@ -97,34 +112,44 @@ module _ (s : Catalogue) (J : Invariant s) where
 
   -- ---- an operation that sees
 
-  module _ {k n : ℕ} {l : List ℕ} (A : Listed s J k n l) (B : Shown s J k n l) (τ : ℕ) (q : 2 * τ + 1 ≡ k) where
-    pub took : (h : ℕ) → h < s .memory .camera .counter → s .memory .camera .left-at h < τ → (p : List Act) × Took h p (acts-of s J l)
+  module _ {k n : ℕ} {l : List ℕ} (A : Listed s invariant k n l) (B : Shown s invariant k n l) (τ : ℕ) (q : 2 * τ + 1 ≡ k) where
+    pub took : (h : ℕ) → h < s .memory .camera .counter → s .memory .camera .left-at h < τ → (p : List Act) × Took h p (acts-of s invariant l)
     took h g b =
-        find-take s J (s .memory .camera .mover h) h l
-          (A .below (s .memory .camera .mover h) (2 * s .memory .camera .left-at h + 1) (J .moved h g .begun) (subst (λ (p : Place). T (keyed (s .memory) p (2 * s .memory .camera .left-at h + 1))) (sym (J .moved h g .at)) (eqb-refl (2 * s .memory .camera .left-at h + 1))) (omega arith))
-          (J .moved h g .operation) (ap (answer-at (s .fate (s .memory .camera .mover h) .operation)) (J .moved h g .at))
+        find-take s invariant (s .memory .camera .mover h) h l
+          (A .below (s .memory .camera .mover h) (2 * s .memory .camera .left-at h + 1) (invariant .moved h g .begun)
+              (subst (λ (p : Place). T (keyed (s .memory) p (2 * s .memory .camera .left-at h + 1))) (sym (invariant .moved h g .at))
+              (eqb-refl (2 * s .memory .camera .left-at h + 1))) (omega arith))
+          (invariant .moved h g .operation) (ap (answer-at (s .fate (s .memory .camera .mover h) .operation)) (invariant .moved h g .at))
 
-    pub observer-right : (operation : Operation) (c : List ℕ) (j x : ℕ) → n < τ → RightAnswer (s .memory) operation n c τ j x → Right operation x (acts-of s J l)
+    pub observer-right : (operation : Operation) (c : List ℕ) (j x : ℕ) → n < τ → RightAnswer (s .memory) operation n c τ j x →
+        Right operation x (acts-of s invariant l)
     observer-right (register i v z) c j x b a = absurd a
-    observer-right (v-read i) c j x b a = a .1 ∙ sym (shown-is s J B q i j (a .0))
+    observer-right (v-read i) c j x b a = a .1 ∙ sym (shown-is s invariant B q i j (a .0))
     observer-right (v-cas i a b) c j x u y = at (y .1)
       where
-        v : value-of i (acts-of s J l) ≡ s .memory .item i .value j
-        v = shown-is s J B q i j (y .0)
-        at : CasSees (s .memory .item i .value j) a b x → x ≡ cond (eqb (value-of i (acts-of s J l)) a) 1 0
-        at (differs e d) = by-eq (λ (z : ℕ). x ≡ z) (value-of i (acts-of s J l)) a (λ f. absurd (d (sym v ∙ f))) (λ f. e)
-        at (same e d f) = by-eq (λ (z : ℕ). x ≡ z) (value-of i (acts-of s J l)) a (λ f. e) (λ f. absurd (f (v ∙ d)))
+        v : value-of i (acts-of s invariant l) ≡ s .memory .item i .value j
+        v = shown-is s invariant B q i j (y .0)
+        at : CasSees (s .memory .item i .value j) a b x → x ≡ cond (eqb (value-of i (acts-of s invariant l)) a) 1 0
+        at (differs e d) = by-eq (λ (z : ℕ). x ≡ z) (value-of i (acts-of s invariant l)) a (λ f. absurd (d (sym v ∙ f))) (λ f. e)
+        at (same e d f) = by-eq (λ (z : ℕ). x ≡ z) (value-of i (acts-of s invariant l)) a (λ f. e) (λ f. absurd (f (v ∙ d)))
     observer-right take-snapshot c j x b a =
         record {
-          reads = λ i y r. let f : (o : ℕ) × In o l × (s .fate o .operation ≡ read-snapshot i x) = find-read s J i x y l r in let p : Keyed s J k n (f .0) = A .memory (f .0) (f .1) in absurd (omega (arith, read-late (p .key) (f .0) i x (p .has) (f .2), p .le, a .1));
-          totals = λ i y r. let f : (o : ℕ) × In o l × (s .fate o .operation ≡ total i x) = find-total s J i x y l r in let p : Keyed s J k n (f .0) = A .memory (f .0) (f .1) in absurd (omega (arith, total-late (p .key) (f .0) i x (p .has) (f .2), p .le, a .1)) }
+          reads = λ i y r. let f : (o : ℕ) × In o l × (s .fate o .operation ≡ read-snapshot i x) = find-read s invariant i x y l r in
+              let p : Keyed s invariant k n (f .0) = A .memory (f .0) (f .1) in
+              absurd (omega (arith, read-late (p .key) (f .0) i x (p .has) (f .2), p .le, a .1));
+          totals = λ i y r. let f : (o : ℕ) × In o l × (s .fate o .operation ≡ total i x) = find-total s invariant i x y l r in
+              let p : Keyed s invariant k n (f .0) = A .memory (f .0) (f .1) in
+              absurd (omega (arith, total-late (p .key) (f .0) i x (p .has) (f .2), p .le, a .1)) }
     observer-right (read-snapshot i h) c j x b a =
         record { taken = took h (a .read .gone) (omega (arith, a .read .when)); same = λ p t. a .is ∙ sym (B .snaps h p t .value i j (a .read .sees)) }
     observer-right (total p h) c j x b a =
-        record { taken = took h (a .gone) (omega (arith, a .when)); same = λ q t. sum-is p h q (a .gone) (B .snaps h q t) (a .sum) ∙ ap (λ (n : ℕ). total-to n p q) (all q (B .snaps h q t) (split (a .k) (items-of q))) }
+        record { taken = took h (a .gone) (omega (arith, a .when)); same = λ q t. sum-is p h q (a .gone) (B .snaps h q t) (a .sum)
+            ∙ ap (λ (n : ℕ). total-to n p q) (all q (B .snaps h q t) (split (a .k) (items-of q))) }
       where
-        all : (q : List Act) → Shot s J h q → Split (a .k) (items-of q) → min (a .k) (items-of q) ≡ items-of q
-        all q S (Split.less u) = absurd (omega (arith, S .low (a .k) u, a .covers (a .k) (omega arith) (S .have (a .k) u), J .kept .memory .item (a .k) .birth (S .have (a .k) u), a .when))
+        all : (q : List Act) → Shot s invariant h q → Split (a .k) (items-of q) → min (a .k) (items-of q) ≡ items-of q
+        all q S (Split.less u) =
+            absurd (omega (arith, S .low (a .k) u, a .covers (a .k) (omega arith) (S .have (a .k) u), invariant .kept .memory .item (a .k) .birth
+            (S .have (a .k) u), a .when))
         all q S (Split.more u) = omega arith
 
     pub observer-one : (operation : Operation) (c : List ℕ) (j x : ℕ) → RightAnswer (s .memory) operation n c τ j x → one-more operation ≡ 0
@@ -136,7 +161,8 @@ module _ (s : Catalogue) (J : Invariant s) where
     observer-one (read-snapshot i h) c j x a = refl
     observer-one (total p h) c j x a = refl
 
-    pub observer-size : (operation : Operation) (c : List ℕ) (j x : ℕ) → RightAnswer (s .memory) operation n c τ j x → (i old : ℕ) → sized i operation old ≡ old
+    pub observer-size : (operation : Operation) (c : List ℕ) (j x : ℕ) → RightAnswer (s .memory) operation n c τ j x → (i old : ℕ) →
+        sized i operation old ≡ old
     unfolding sized
     observer-size (register i v z) c j x a i' old = absurd a
     observer-size (v-read i) c j x a i' old = refl
@@ -145,68 +171,75 @@ module _ (s : Catalogue) (J : Invariant s) where
     observer-size (read-snapshot i h) c j x a i' old = refl
     observer-size (total p h) c j x a i' old = refl
 
-    pub observer-same : (operation : Operation) (c : List ℕ) (j x : ℕ) → RightAnswer (s .memory) operation n c τ j x → (i : ℕ) → changed i operation (value-of i (acts-of s J l)) ≡ value-of i (acts-of s J l)
+    pub observer-same : (operation : Operation) (c : List ℕ) (j x : ℕ) → RightAnswer (s .memory) operation n c τ j x → (i : ℕ) →
+        changed i operation (value-of i (acts-of s invariant l)) ≡ value-of i (acts-of s invariant l)
     unfolding changed
     observer-same (register i v z) c j x a i' = absurd a
     observer-same (v-read i) c j x a i' = refl
     observer-same (v-cas i a b) c j x y i' =
-        by-eq (λ (z : ℕ). z ≡ value-of i' (acts-of s J l)) i' i
-          (λ e. by-eq (λ (z : ℕ). z ≡ value-of i' (acts-of s J l)) (value-of i' (acts-of s J l)) a (λ f. at (y .1) e f) (λ f. refl))
+        by-eq (λ (z : ℕ). z ≡ value-of i' (acts-of s invariant l)) i' i
+          (λ e. by-eq (λ (z : ℕ). z ≡ value-of i' (acts-of s invariant l)) (value-of i' (acts-of s invariant l)) a (λ f. at (y .1) e f) (λ f. refl))
           (λ e. refl)
       where
-        v : value-of i (acts-of s J l) ≡ s .memory .item i .value j
-        v = shown-is s J B q i j (y .0)
-        at : CasSees (s .memory .item i .value j) a b x → i' ≡ i → value-of i' (acts-of s J l) ≡ a → b ≡ value-of i' (acts-of s J l)
-        at (differs e d) p f = absurd (d (sym v ∙ ap (λ (i : ℕ). value-of i (acts-of s J l)) (sym p) ∙ f))
+        v : value-of i (acts-of s invariant l) ≡ s .memory .item i .value j
+        v = shown-is s invariant B q i j (y .0)
+        at : CasSees (s .memory .item i .value j) a b x → i' ≡ i → value-of i' (acts-of s invariant l) ≡ a → b ≡ value-of i' (acts-of s invariant l)
+        at (differs e d) p f = absurd (d (sym v ∙ ap (λ (i : ℕ). value-of i (acts-of s invariant l)) (sym p) ∙ f))
         at (same e d g) p f = g ∙ sym f
     observer-same take-snapshot c j x a i' = refl
     observer-same (read-snapshot i h) c j x a i' = refl
     observer-same (total p h) c j x a i' = refl
 
-    pub shown-observer : (j x : ℕ) → s .place n ≡ observes τ j x → Shown s J k (suc n) (n ∷ l)
+    pub shown-observer : (j x : ℕ) → s .place n ≡ observes τ j x → Shown s invariant k (suc n) (n ∷ l)
     unfolding acts-of value-of items-of size-of
     shown-observer j x e =
         record {
           shown = B .shown; shown-valid = B .shown-valid; before = B .before; after = B .after;
           before-same = λ i j p f. omega (arith, B .before-same i j p f);
-          after-same = λ i j p r f. omega (arith, B .after-same i j p r f, not-observing (J .kept .versions-right i j (omega (arith, J .kept .memory .item i .valid-published))) e);
+          after-same = λ i j p r f. omega
+              (arith, B .after-same i j p r f,
+              not-observing (invariant .kept .versions-right i j (omega (arith, invariant .kept .memory .item i .valid-published))) e);
           value = λ i. observer-same (s .fate n .operation) (s .fate n .lines) j x (O .seen) i ∙ B .value i;
           items = B .items; low = B .low; high = B .high;
           items-is = omega (arith, observer-one (s .fate n .operation) (s .fate n .lines) j x (O .seen), B .items-is);
           sizes = λ i p. observer-size (s .fate n .operation) (s .fate n .lines) j x (O .seen) i _ ∙ B .sizes i p;
           snaps = λ h p t. snap h p t;
-          legal = (subst (λ (y : ℕ). Right (s .fate n .operation) y (acts-of s J l)) (sym answer) (observer-right (s .fate n .operation) (s .fate n .lines) j x (O .since) (O .seen)), B .legal) }
+          legal = (subst (λ (y : ℕ). Right (s .fate n .operation) y (acts-of s invariant l)) (sym answer)
+              (observer-right (s .fate n .operation) (s .fate n .lines) j x (O .since) (O .seen)), B .legal) }
       where
         O : ObserverRight (s .now) n τ j x (s .memory) (s .fate n)
-        O = subst (λ (p : Place). PlaceRight (s .now) n (s .memory) (s .fate n) p) e (J .kept .places n)
+        O = subst (λ (p : Place). PlaceRight (s .now) n (s .memory) (s .fate n) p) e (invariant .kept .places n)
         answer : answer-at (s .fate n .operation) (s .place n) ≡ x
         answer = ap (answer-at (s .fate n .operation)) e
-        shot : (h : ℕ) → s .memory .camera .left-at h ≡ τ → Shot s J h (acts-of s J l)
+        shot : (h : ℕ) → s .memory .camera .left-at h ≡ τ → Shot s invariant h (acts-of s invariant l)
         shot h e =
             record {
-              value = λ i j y. shown-is s J B q i j (subst (λ (τ : ℕ). Sees (s .memory .item i) τ j) e y);
+              value = λ i j y. shown-is s invariant B q i j (subst (λ (τ : ℕ). Sees (s .memory .item i) τ j) e y);
               low = λ i p. omega (arith, B .before i 0 (B .low i (omega (arith, B .items-is))));
               have = λ i p. omega (arith, B .low i (omega (arith, B .items-is)), B .shown-valid i);
               high = λ i p r. omega (arith, B .after i 0 (omega (arith, B .high i (omega (arith, B .items-is)))) r);
               sizes = λ i p. B .sizes i (omega (arith, B .items-is)) }
-        snap : (h : ℕ) (p : List Act) → Took h p (acts-of s J (n ∷ l)) → Shot s J h p
+        snap : (h : ℕ) (p : List Act) → Took h p (acts-of s invariant (n ∷ l)) → Shot s invariant h p
         snap h p (Took.here a w u) =
-            let Z : (x < s .memory .camera .counter) × (s .memory .camera .left-at x ≡ τ) = subst (λ (operation : Operation). RightAnswer (s .memory) operation n (s .fate n .lines) τ j x) w (O .seen) in
+            let Z : (x < s .memory .camera .counter) × (s .memory .camera .left-at x ≡ τ) =
+                subst (λ (operation : Operation). RightAnswer (s .memory) operation n (s .fate n .lines) τ j x) w (O .seen) in
             shot h (ap (s .memory .camera .left-at) (sym u ∙ answer) ∙ Z .1)
         snap h p (Took.earlier a t) = B .snaps h p t
 
   -- ---- an operation that changes an item
 
-  module _ {k n : ℕ} {l : List ℕ} (A : Listed s J k n l) (B : Shown s J k n l) (i j : ℕ) (e : s .place n ≡ changes i j) (q : 2 * s .memory .item i .effect-at j ≡ k) where
+  module _ {k n : ℕ} {l : List ℕ} (A : Listed s invariant k n l) (B : Shown s invariant k n l) (i j : ℕ) (e : s .place n ≡ changes i j)
+      (q : 2 * s .memory .item i .effect-at j ≡ k) where
     pub C : ChangeRight (s .now) n i j (s .memory) (s .fate n)
-    C = subst (λ (p : Place). PlaceRight (s .now) n (s .memory) (s .fate n) p) e (J .kept .places n)
+    C = subst (λ (p : Place). PlaceRight (s .now) n (s .memory) (s .fate n) p) e (invariant .kept .places n)
 
     pub cur-is : B .shown i ≡ j
     cur-is = at (split j (B .shown i)) (split (B .shown i) j)
       where
         at : Split j (B .shown i) → Split (B .shown i) j → B .shown i ≡ j
         at (Split.less u) v = absurd (omega (arith, B .before-same i j u q, C .mine))
-        at (Split.more u) (Split.less v) = absurd (omega (arith, B .after i (B .shown i) (omega arith) (omega (arith, C .good)), effects-rise s J i (B .shown i) j v (C .good)))
+        at (Split.more u) (Split.less v) =
+            absurd (omega (arith, B .after i (B .shown i) (omega arith) (omega (arith, C .good)), effects-rise s invariant i (B .shown i) j v (C .good)))
         at (Split.more u) (Split.more v) = omega arith
 
     -- the items come in their order
@@ -219,11 +252,14 @@ module _ (s : Catalogue) (J : Invariant s) where
         at (Split.more u) (Split.less v) = later-item (split i (s .memory .items))
           where
             later-item : Split i (s .memory .items) → i ≡ B .items
-            later-item (Split.more w) = absurd (omega (arith, J .kept .memory .unregistered i w, C .good, J .kept .memory .item i .valid-published))
+            later-item (Split.more w) =
+                absurd (omega (arith, invariant .kept .memory .unregistered i w, C .good, invariant .kept .memory .item i .valid-published))
             later-item (Split.less w) =
-                let o : 0 < s .memory .item (B .items) .valid = J .kept .memory .registered (B .items) (omega arith) in
+                let o : 0 < s .memory .item (B .items) .valid = invariant .kept .memory .registered (B .items) (omega arith) in
                 let z : j ≡ 0 = sym cur-is ∙ c in
-                absurd (omega (arith, B .after (B .items) 0 (omega (arith, B .high (B .items) (omega arith))) o, J .kept .memory .births (B .items) i v w, J .kept .memory .item (B .items) .birth o, J .kept .memory .item i .birth (omega (arith, C .good)), subst (λ (j : ℕ). 2 * s .memory .item i .effect-at j ≡ k) z q))
+                absurd (omega (arith, B .after (B .items) 0 (omega (arith, B .high (B .items) (omega arith))) o, invariant .kept .memory .births
+                    (B .items) i v w, invariant .kept .memory .item (B .items) .birth o, invariant .kept .memory .item i .birth (omega (arith, C .good)),
+                    subst (λ (j : ℕ). 2 * s .memory .item i .effect-at j ≡ k) z q))
 
     unfoldable pub more-items : ℕ → ℕ
     more-items zero = suc (B .items)
@@ -242,18 +278,25 @@ module _ (s : Catalogue) (J : Invariant s) where
     pub change-high : (j : ℕ) → B .shown i ≡ j → (i' : ℕ) → more-items j ≤ i' → put (B .shown) i (suc j) i' ≡ 0
     unfolding more-items
     change-high zero c i' p = put-all (λ (x y : ℕ). y ≡ 0) (B .shown) i 1 i' (λ f. absurd (omega (arith, next-item c))) (λ f. B .high i' (omega arith))
-    change-high (suc j) c i' p = put-all (λ (x y : ℕ). y ≡ 0) (B .shown) i (suc (suc j)) i' (λ f. absurd (omega (arith, B .high i (omega arith)))) (λ f. B .high i' p)
+    change-high (suc j) c i' p = put-all (λ (x y : ℕ). y ≡ 0) (B .shown) i (suc (suc j)) i' (λ f. absurd (omega (arith, B .high i (omega arith))))
+        (λ f. B .high i' p)
 
-    pub change-size : (j : ℕ) → B .shown i ≡ j → (i' : ℕ) → i' < more-items j → sized i' (asked-for (s .memory .item i) i j) (size-of i' (acts-of s J l)) ≡ s .memory .item i' .size
+    pub change-size : (j : ℕ) → B .shown i ≡ j → (i' : ℕ) → i' < more-items j →
+        sized i' (asked-for (s .memory .item i) i j) (size-of i' (acts-of s invariant l)) ≡ s .memory .item i' .size
     unfolding more-items sized
-    change-size zero c i' p = by-eq (λ (z : ℕ). z ≡ s .memory .item i' .size) i' i (λ f. ap (λ (i : ℕ). s .memory .item i .size) (sym f)) (λ f. B .sizes i' (omega (arith, next-item c)))
+    change-size zero c i' p = by-eq (λ (z : ℕ). z ≡ s .memory .item i' .size) i' i (λ f. ap (λ (i : ℕ). s .memory .item i .size) (sym f))
+        (λ f. B .sizes i' (omega (arith, next-item c)))
     change-size (suc j) c i' p = B .sizes i' p
 
-    pub change-legal : (j : ℕ) → B .shown i ≡ j → Right (asked-for (s .memory .item i) i j) (change-answer (asked-for (s .memory .item i) i j)) (acts-of s J l)
+    pub change-legal : (j : ℕ) → B .shown i ≡ j → Right (asked-for (s .memory .item i) i j) (change-answer (asked-for (s .memory .item i) i j))
+        (acts-of s invariant l)
     change-legal zero c = (refl, B .items-is ∙ sym (next-item (cur-is ∙ sym cur-is ∙ c)))
-    change-legal (suc j) c = by-eq (λ (z : ℕ). 1 ≡ z) (value-of i (acts-of s J l)) (s .memory .item i .value j) (λ f. refl) (λ f. absurd (f (B .value i ∙ ap (shown-value (s .memory .item i)) c)))
+    change-legal (suc j) c = by-eq (λ (z : ℕ). 1 ≡ z) (value-of i (acts-of s invariant l)) (s .memory .item i .value j) (λ f. refl)
+        (λ f. absurd (f (B .value i ∙ ap (shown-value (s .memory .item i)) c)))
 
-    pub change-value : (j : ℕ) → B .shown i ≡ j → (i' : ℕ) → changed i' (asked-for (s .memory .item i) i j) (value-of i' (acts-of s J l)) ≡ shown-value (s .memory .item i') (put (B .shown) i (suc j) i')
+    pub change-value : (j : ℕ) → B .shown i ≡ j → (i' : ℕ) →
+        changed i' (asked-for (s .memory .item i) i j) (value-of i' (acts-of s invariant l)) ≡ shown-value (s .memory .item i')
+        (put (B .shown) i (suc j) i')
     unfolding changed
     change-value zero c i' =
         by-eq (λ (z : ℕ). z ≡ shown-value (s .memory .item i') (put (B .shown) i 1 i')) i' i
@@ -261,34 +304,44 @@ module _ (s : Catalogue) (J : Invariant s) where
           (λ f. B .value i' ∙ ap (shown-value (s .memory .item i')) (sym (put-other (B .shown) i 1 i' f)))
     change-value (suc j) c i' =
         by-eq (λ (z : ℕ). z ≡ shown-value (s .memory .item i') (put (B .shown) i (suc (suc j)) i')) i' i
-          (λ f. by-eq (λ (z : ℕ). z ≡ shown-value (s .memory .item i') (put (B .shown) i (suc (suc j)) i')) (value-of i' (acts-of s J l)) (s .memory .item i .value j)
-            (λ g. ap (λ (i : ℕ). s .memory .item i .value (suc j)) (sym f) ∙ ap (shown-value (s .memory .item i')) (sym (put-same (B .shown) i (suc (suc j)) i' f)))
-            (λ g. absurd (g (ap (λ (i : ℕ). value-of i (acts-of s J l)) f ∙ B .value i ∙ ap (shown-value (s .memory .item i)) c))))
+          (λ f. by-eq (λ (z : ℕ). z ≡ shown-value (s .memory .item i') (put (B .shown) i (suc (suc j)) i')) (value-of i' (acts-of s invariant l))
+              (s .memory .item i .value j)
+            (λ g. ap (λ (i : ℕ). s .memory .item i .value (suc j)) (sym f)
+                ∙ ap (shown-value (s .memory .item i')) (sym (put-same (B .shown) i (suc (suc j)) i' f)))
+            (λ g. absurd (g (ap (λ (i : ℕ). value-of i (acts-of s invariant l)) f ∙ B .value i ∙ ap (shown-value (s .memory .item i)) c))))
           (λ f. B .value i' ∙ ap (shown-value (s .memory .item i')) (sym (put-other (B .shown) i (suc (suc j)) i' f)))
 
-    pub shown-change : Shown s J k (suc n) (n ∷ l)
+    pub shown-change : Shown s invariant k (suc n) (n ∷ l)
     unfolding acts-of value-of items-of size-of
     shown-change =
         record {
           shown = put (B .shown) i (suc j);
-          shown-valid = λ i'. put-all (λ (i' c : ℕ). c ≤ s .memory .item i' .valid) (B .shown) i (suc j) i' (λ f. subst (λ (i' : ℕ). suc j ≤ s .memory .item i' .valid) (sym f) (C .good)) (λ f. B .shown-valid i');
+          shown-valid = λ i'. put-all (λ (i' c : ℕ). c ≤ s .memory .item i' .valid) (B .shown) i (suc j) i'
+              (λ f. subst (λ (i' : ℕ). suc j ≤ s .memory .item i' .valid) (sym f) (C .good)) (λ f. B .shown-valid i');
           before = λ i' j'. put-all (λ (i' c : ℕ). j' < c → 2 * s .memory .item i' .effect-at j' ≤ k) (B .shown) i (suc j) i'
             (λ f p. subst (λ (i' : ℕ). 2 * s .memory .item i' .effect-at j' ≤ k) (sym f) (in1 j' p (same? j' j))) (λ f p. B .before i' j' p);
-          before-same = λ i' j'. put-all (λ (i' c : ℕ). j' < c → 2 * s .memory .item i' .effect-at j' ≡ k → s .memory .item i' .author j' < suc n) (B .shown) i (suc j) i'
-            (λ f p. subst (λ (i' : ℕ). 2 * s .memory .item i' .effect-at j' ≡ k → s .memory .item i' .author j' < suc n) (sym f) (λ g. in2 j' p g (same? j' j))) (λ f p g. omega (arith, B .before-same i' j' p g));
-          after = λ i' j'. put-all (λ (i' c : ℕ). c ≤ j' → j' < s .memory .item i' .valid → k ≤ 2 * s .memory .item i' .effect-at j') (B .shown) i (suc j) i'
-            (λ f p. subst (λ (i' : ℕ). j' < s .memory .item i' .valid → k ≤ 2 * s .memory .item i' .effect-at j') (sym f) (λ r. omega (arith, effects-rise s J i j j' p r))) (λ f p r. B .after i' j' p r);
-          after-same = λ i' j'. put-all (λ (i' c : ℕ). c ≤ j' → j' < s .memory .item i' .valid → 2 * s .memory .item i' .effect-at j' ≡ k → suc n ≤ s .memory .item i' .author j') (B .shown) i (suc j) i'
-            (λ f p. subst (λ (i' : ℕ). j' < s .memory .item i' .valid → 2 * s .memory .item i' .effect-at j' ≡ k → suc n ≤ s .memory .item i' .author j') (sym f) (λ r g. absurd (omega (arith, effects-rise s J i j j' p r))))
+          before-same = λ i' j'. put-all (λ (i' c : ℕ). j' < c → 2 * s .memory .item i' .effect-at j' ≡ k → s .memory .item i' .author j' < suc n)
+              (B .shown) i (suc j) i'
+            (λ f p. subst (λ (i' : ℕ). 2 * s .memory .item i' .effect-at j' ≡ k → s .memory .item i' .author j' < suc n) (sym f)
+                (λ g. in2 j' p g (same? j' j))) (λ f p g. omega (arith, B .before-same i' j' p g));
+          after = λ i' j'. put-all (λ (i' c : ℕ). c ≤ j' → j' < s .memory .item i' .valid → k ≤ 2 * s .memory .item i' .effect-at j') (B .shown) i
+              (suc j) i'
+            (λ f p. subst (λ (i' : ℕ). j' < s .memory .item i' .valid → k ≤ 2 * s .memory .item i' .effect-at j') (sym f)
+                (λ r. omega (arith, effects-rise s invariant i j j' p r))) (λ f p r. B .after i' j' p r);
+          after-same = λ i' j'. put-all (λ (i' c : ℕ). c ≤ j' → j' < s .memory .item i' .valid → 2 * s .memory .item i' .effect-at j' ≡ k →
+              suc n ≤ s .memory .item i' .author j') (B .shown) i (suc j) i'
+            (λ f p. subst (λ (i' : ℕ). j' < s .memory .item i' .valid → 2 * s .memory .item i' .effect-at j' ≡ k → suc n ≤ s .memory .item i' .author j')
+                (sym f) (λ r g. absurd (omega (arith, effects-rise s invariant i j j' p r))))
             (λ f p r g. omega (arith, B .after-same i' j' p r g, other i' j' f r));
-          value = λ i'. ap (λ (operation : Operation). changed i' operation (value-of i' (acts-of s J l))) operation ∙ change-value j cur-is i';
+          value = λ i'. ap (λ (operation : Operation). changed i' operation (value-of i' (acts-of s invariant l))) operation ∙ change-value j cur-is i';
           items = more-items j;
           items-is = ap₂ (λ (operation : Operation) (r : ℕ). one-more operation + r) operation (B .items-is) ∙ change-one j;
           low = change-low j cur-is;
           high = change-high j cur-is;
-          sizes = λ i' p. ap (λ (operation : Operation). sized i' operation (size-of i' (acts-of s J l))) operation ∙ change-size j cur-is i' p;
+          sizes = λ i' p. ap (λ (operation : Operation). sized i' operation (size-of i' (acts-of s invariant l))) operation ∙ change-size j cur-is i' p;
           snaps = λ h p t. snap h p t;
-          legal = (subst (λ (y : ℕ). Right (s .fate n .operation) y (acts-of s J l)) (sym (ap (answer-at (s .fate n .operation)) e)) (subst (λ (o : Operation). Right o (change-answer o) (acts-of s J l)) (sym operation) (change-legal j cur-is)), B .legal) }
+          legal = (subst (λ (y : ℕ). Right (s .fate n .operation) y (acts-of s invariant l)) (sym (ap (answer-at (s .fate n .operation)) e))
+              (subst (λ (o : Operation). Right o (change-answer o) (acts-of s invariant l)) (sym operation) (change-legal j cur-is)), B .legal) }
       where
         operation : s .fate n .operation ≡ asked-for (s .memory .item i) i j
         operation = change-operation n i j e
@@ -299,8 +352,11 @@ module _ (s : Catalogue) (J : Invariant s) where
         in2 j' p g (eq f) = subst (λ (j' : ℕ). s .memory .item i .author j' < suc n) (sym f) (omega (arith, C .mine))
         in2 j' p g (ne f) = omega (arith, B .before-same i j' (omega (arith, cur-is)) g)
         other : (i' j' : ℕ) → i' ≢ i → j' < s .memory .item i' .valid → s .memory .item i' .author j' ≢ n
-        other i' j' f r z = f (ap place-item (sym (J .kept .versions-right i' j' (omega (arith, J .kept .memory .item i' .valid-published)) .valid r) ∙ ap (s .place) z ∙ e))
-        snap : (h : ℕ) (p : List Act) → Took h p (acts-of s J (n ∷ l)) → Shot s J h p
-        snap h p (Took.here a w u) = let z : 3 ≤ 2 = subst (λ (n : ℕ). n ≤ 2) (ap operation-tag (sym operation ∙ w)) (asked-tag (s .memory .item i) i j) in absurd (omega arith)
+        other i' j' f r z =
+            f (ap place-item (sym (invariant .kept .versions-right i' j' (omega (arith, invariant .kept .memory .item i' .valid-published)) .valid r)
+            ∙ ap (s .place) z ∙ e))
+        snap : (h : ℕ) (p : List Act) → Took h p (acts-of s invariant (n ∷ l)) → Shot s invariant h p
+        snap h p (Took.here a w u) = let z : 3 ≤ 2 = subst (λ (n : ℕ). n ≤ 2) (ap operation-tag (sym operation ∙ w))
+            (asked-tag (s .memory .item i) i j) in absurd (omega arith)
         snap h p (Took.earlier a t) = B .snaps h p t
 

@@ -7,7 +7,9 @@ use Prim.Native.Nat.{ℕ, zero, suc, _+_, _≤_, _<_}
 use native.Mathlib.Omega.{arith}
 use lib.ListN.{replicate}
 use Rattle.history.specs.Tools.{Split, split}
-use Rattle.history.specs.Machine.{Item, Camera, Limits, Memory, Then, then-39, then-43, then-48, then-52, then-34, then-total-34, Phase, line-37, line-39, line-41, line-43, line-45, line-46, line-48, line-50, line-51, line-52, line-5, line-6, line-32, line-34, total-32, total-34, closing, line-20, line-21, line-22, helped-item}
+use Rattle.history.specs.Machine.{Item, Camera, Limits, Memory, Then, then-39, then-43, then-48, then-52, then-34, then-total-34, Phase,
+    line-37, line-39, line-41, line-43, line-45, line-46, line-48, line-50, line-51, line-52, line-5, line-6, line-32, line-34, total-32, total-34,
+    closing, line-20, line-21, line-22, helped-item}
 use Rattle.history.specs.Facts.{CounterWas, Fetched, Mine, Lost, Born, Sum, helped, MemoryFacts, LaterItem, Later}
 use Rattle.history.specs.Later.{counter-later, fetched-later, mine-later, lost-later, born-later, sum-later}
 
@@ -147,7 +149,7 @@ then-published t o l m (then-52 i a b g) j x = x .1 .have
 then-published t o l m (then-34 i h f) j x = x .1 .held .got .have
 then-published t o l m (then-total-34 q h k i u f) j x = x .reading .held .got .have
 
-module _ (o : ℕ) {t : ℕ} {m m' : Memory} (L : Later t m m') (ot : o < t) (I : MemoryFacts t m) where
+module _ (o : ℕ) {t : ℕ} {m m' : Memory} (L : Later t m m') (ot : o < t) (known : MemoryFacts t m) where
   pub held-later : {i j f : ℕ} → Held t o (m .item i) j f → Held (suc t) o (m' .item i) j f
   held-later {i} x = record { got = fetched-later (L .item i) (x .till) (x .got); since = x .since; till = omega arith }
 
@@ -155,41 +157,47 @@ module _ (o : ℕ) {t : ℕ} {m m' : Memory} (L : Later t m m') (ot : o < t) (I 
   reading-later {i} x = record { held = held-later (x .held); born = born-later (L .item i) (L .camera) (x .born) }
 
   pub wants-later : {i a b j f : ℕ} → Wants t o (m .item i) a b j f → Wants (suc t) o (m' .item i) a b j f
-  wants-later {i} {a} {b} {j} x = record { held = held-later (x .held); good = omega (arith, L .item i .more-valid); same = L .item i .value j (x .held .got .have) ∙ x .same; change = x .change }
+  wants-later {i} {a} {b} {j} x = record { held = held-later (x .held); good = omega (arith, L .item i .more-valid);
+      same = L .item i .value j (x .held .got .have) ∙ x .same; change = x .change }
 
   pub totals-later : {q h k i u : ℕ} {l : List ℕ} → Totals t o m q h k i u l → Totals (suc t) o m' q h k i u l
   totals-later {q} {h} {k} {i} {u} x =
       record {
-        gone = omega (arith, L .camera .counters, x .gone); when = omega (arith, L .camera .same h (x .gone), x .when); at = x .at; registered = omega (arith, L .items, x .registered);
+        gone = omega (arith, L .camera .counters, x .gone); when = omega (arith, L .camera .same h (x .gone), x .when); at = x .at;
+            registered = omega (arith, L .items, x .registered);
         have = λ y p. omega (arith, L .item y .more-valid, x .have y p);
         covers = λ y p r. old y p r (split 0 (m .item y .valid));
-        sum = sum-later L (λ i. I .item i .valid-published) q h o t (suc t) ot (omega arith) (omega arith) (x .sum) }
+        sum = sum-later L (λ i. known .item i .valid-published) q h o t (suc t) ot (omega arith) (omega arith) (x .sum) }
     where
       old : (y : ℕ) → k ≤ y → 0 < m' .item y .valid → Split 0 (m .item y .valid) → o ≤ m' .item y .author 0
-      old y p r (Split.less b) = omega (arith, L .item y .author 0 (omega (arith, I .item y .valid-published)), x .covers y p b)
+      old y p r (Split.less b) = omega (arith, L .item y .author 0 (omega (arith, known .item y .valid-published)), x .covers y p b)
       old y p r (Split.more b) = omega (arith, L .new-author y (none-yet (split 0 (m .item y .versions))) r)
         where
           none-yet : Split 0 (m .item y .versions) → m .item y .versions ≡ 0
-          none-yet (Split.less z) = absurd (omega (arith, I .item y .first z))
+          none-yet (Split.less z) = absurd (omega (arith, known .item y .first z))
           none-yet (Split.more z) = omega arith
 
   pub walked-later : {i h f j x : ℕ} → Walked t o (m .camera) (m .item i) h f j x → Walked (suc t) o (m' .camera) (m' .item i) h f j x
   walked-later {i} x =
-      record { reading = reading-later (x .reading); good = omega (arith, L .item i .more-valid); at = x .at; above = λ y p r. omega (arith, L .item i .stamp y (omega (arith, x .good)), x .above y p r) }
+      record { reading = reading-later (x .reading); good = omega (arith, L .item i .more-valid); at = x .at;
+          above = λ y p r. omega (arith, L .item i .stamp y (omega (arith, x .good)), x .above y p r) }
 
   lost-stays : {i a g : ℕ} → Lost (m .item i) o a g → Lost (m' .item i) o a g
-  lost-stays {i} {a} {g} x = lost-later (L .item i) (I .item i .published-past (suc g) (x .more)) x
+  lost-stays {i} {a} {g} x = lost-later (L .item i) (known .item i .published-past (suc g) (x .more)) x
 
   pub then-later : (l : List ℕ) (c : Then) (j : ℕ) → ThenFacts t o l m c j → ThenFacts (suc t) o l m' c j
   then-later l (then-39 i f) j x = (x .0, held-later (x .1))
   then-later l (then-43 i a b f) j x = (x .0, held-later (x .1))
   then-later l (then-48 i a b) j x = (x .0, mine-later (L .item i) (x .1))
-  then-later l (then-52 i a b g) j x = (x .0, record { lost = lost-stays (x .1 .lost); have = omega (arith, L .item i .more-versions, x .1 .have); newer = x .1 .newer })
+  then-later l (then-52 i a b g) j x =
+      (x .0, record { lost = lost-stays (x .1 .lost); have = omega (arith, L .item i .more-versions, x .1 .have); newer = x .1 .newer })
   then-later l (then-34 i h f) j x = (x .0, reading-later (x .1))
-  then-later l (then-total-34 q h k i u f) j x = record { done = x .done; is = x .is; totals = totals-later (x .totals); more = x .more; reading = reading-later (x .reading) }
+  then-later l (then-total-34 q h k i u f) j x = record { done = x .done; is = x .is; totals = totals-later (x .totals); more = x .more;
+      reading = reading-later (x .reading) }
 
   helped-later : (l : List ℕ) (c : Then) (j : ℕ) → Helped t o l m c j → Helped (suc t) o l m' c j
-  helped-later l c j x = record { earlier = x .earlier; tbd = x .tbd; is = x .is; keeps = then-later (x .earlier) c j (x .keeps); good = omega (arith, L .item (helped-item c) .more-valid) }
+  helped-later l c j x = record { earlier = x .earlier; tbd = x .tbd; is = x .is; keeps = then-later (x .earlier) c j (x .keeps);
+      good = omega (arith, L .item (helped-item c) .more-valid) }
 
   pub phase-later : (l : List ℕ) (ph : Phase) → PhaseFacts t o l m ph → PhaseFacts (suc t) o l m' ph
   phase-later l (line-37 i) x = (x .0, omega (arith, L .item i .more-valid, x .1))
@@ -204,15 +212,18 @@ module _ (o : ℕ) {t : ℕ} {m m' : Memory} (L : Later t m m') (ot : o < t) (I 
   phase-later l (line-52 i a b g j) x = helped-later l (then-52 i a b g) j x
   phase-later l line-5 x = x
   phase-later l (line-6 c r) x =
-      (x .0, subst (λ (y : Limits). c < y .counter) (sym (L .limits)) (x .1), record { since = x .2 .since; till = omega (arith, x .2 .till); was = counter-later (L .camera) (x .2 .till) (x .2 .was) })
+      (x .0, subst (λ (y : Limits). c < y .counter) (sym (L .limits)) (x .1), record { since = x .2 .since; till = omega (arith, x .2 .till);
+          was = counter-later (L .camera) (x .2 .till) (x .2 .was) })
   phase-later l (line-32 i h) x = (x .0, born-later (L .item i) (L .camera) (x .1))
   phase-later l (line-34 i h f j y) x = (x .0, walked-later (x .1))
   phase-later l (total-32 q h k i u) x = (x .0, totals-later (x .1))
-  phase-later l (total-34 q h k i u f j y) x = record { done = x .done; here = x .here; is = x .is; passing = x .passing; totals = totals-later (x .totals); more = x .more; way = walked-later (x .way) }
+  phase-later l (total-34 q h k i u f j y) x = record { done = x .done; here = x .here; is = x .is; passing = x .passing;
+      totals = totals-later (x .totals); more = x .more; way = walked-later (x .way) }
   phase-later l (closing q h k u) x = totals-later x
   phase-later l (line-20 c j) x = then-later l c j x
   phase-later l (line-21 c j) x = record { earlier = x .earlier; is = x .is; keeps = then-later (x .earlier) c j (x .keeps) }
   phase-later l (line-22 c j n r) x =
       record {
         earlier = x .earlier; is = x .is; keeps = then-later (x .earlier) c j (x .keeps); read = counter-later (L .camera) (x .before) (x .read);
-        past = omega (arith, L .item (helped-item c) .published-at j (then-published t o (x .earlier) m c j (x .keeps)), x .past); before = omega (arith, x .before) }
+        past = omega (arith, L .item (helped-item c) .published-at j (then-published t o (x .earlier) m c j (x .keeps)), x .past);
+            before = omega (arith, x .before) }

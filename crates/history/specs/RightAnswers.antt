@@ -4,7 +4,10 @@ use mathlib.Core.Logic.{_≢_, _⊎_}
 use mathlib.Core.Bool.{Bool, true, false}
 use mathlib.Core.List.{List, [], _∷_, _++_}
 use Prim.Native.Nat.{ℕ, zero, suc, _+_, _≤_, _<_, max}
-use Rattle.history.specs.Machine.{Item, Memory, Operation, register, v-read, v-cas, take-snapshot, read-snapshot, total, Then, then-39, then-43, then-48, then-52, then-34, then-total-34, Phase, line-37, line-39, line-41, line-43, line-45, line-46, line-48, line-50, line-51, line-52, line-5, line-6, line-32, line-34, total-32, total-34, closing, line-20, line-21, line-22, Effect, nothing, counts, publishes, stamps, takes-node, gives-back, Comes, goes-on, ends-with, answers-change, answers, Next, Fate, line-number, memory-after}
+use Rattle.history.specs.Machine.{Item, Memory, Operation, register, v-read, v-cas, take-snapshot, read-snapshot, total, Then, then-39,
+    then-43, then-48, then-52, then-34, then-total-34, Phase, line-37, line-39, line-41, line-43, line-45, line-46, line-48, line-50, line-51,
+    line-52, line-5, line-6, line-32, line-34, total-32, total-34, closing, line-20, line-21, line-22, Effect, nothing, counts, publishes, stamps,
+    takes-node, gives-back, Comes, goes-on, ends-with, answers-change, answers, Next, Fate, line-number, memory-after}
 use Rattle.history.specs.Facts.{Sees, Fetched, Read, Sum, helped}
 use Rattle.history.specs.Changes.{Allowed}
 use Rattle.history.specs.PhaseFacts.{PhaseFacts}
@@ -222,5 +225,6 @@ Moving t m op (gives-back y) u = Unit {0}
 -- A line by a worker with the lines l before it, at phase ph.
 pub record LineRight (t o : ℕ) (l : List ℕ) (m : Memory) (ph : Phase) (x : Next) : Type 0 where
   pub does : Allowed t o (phase-operation ph) (has-published ph) m (x .does)
-  pub comes : ComesRight (suc t) o (line-number ph ∷ l) (memory-after t o (x .does) m) (phase-operation ph) (published-after (x .does) (has-published ph)) (x .comes)
+  pub comes : ComesRight (suc t) o (line-number ph ∷ l) (memory-after t o (x .does) m) (phase-operation ph) (published-after (x .does) (has-published ph))
+      (x .comes)
   pub moves : Moving t m (phase-operation ph) (x .does) (x .comes)

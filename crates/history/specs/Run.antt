@@ -9,12 +9,16 @@ use lib.Dec.{T, ltb, leb, eqb, nltb→le, nleb→lt}
 use Rattle.definitions.specs.Answers.{Refusal, accepted}
 use Rattle.definitions.specs.Calls.{Call}
 use Rattle.history.specs.Tools.{put, put-all, put-both, put-same, put-other, by-eq, by-test}
-use Rattle.history.specs.Machine.{Item, Memory, Limits, Operation, register, v-read, v-cas, take-snapshot, read-snapshot, total, Phase, total-at, found, node-to-take, one-taken, nothing, memory-after, place-after, newborn, Place, unplaced, awaits, changes, observes, Fate, Worker, idle, busy, Catalogue, tick, Move, unless, step-refusals, worker-refusals, register-refusals, stepped, stepping, first-phase, start-refusals, begun, starting, registered, registering, move, call, fresh, after-calls}
+use Rattle.history.specs.Machine.{Item, Memory, Limits, Operation, register, v-read, v-cas, take-snapshot, read-snapshot, total, Phase,
+    total-at, found, node-to-take, one-taken, nothing, memory-after, place-after, newborn, Place, unplaced, awaits, changes, observes, Fate, Worker,
+    idle, busy, Catalogue, tick, Move, unless, step-refusals, worker-refusals, register-refusals, stepped, stepping, first-phase, start-refusals,
+    begun, starting, registered, registering, move, call, fresh, after-calls}
 use Rattle.history.specs.Facts.{Born, Sum, empty, ItemFacts, MemoryFacts, LaterItem, Later}
 use Rattle.history.specs.Changes.{effect-later, camera-stays, item-same, item-stays, newborn-facts, newborn-later}
 use Rattle.history.specs.PhaseFacts.{Totals, PhaseFacts, phase-later}
 use Rattle.history.specs.RightAnswers.{phase-operation, has-published, FateLines}
-use Rattle.history.specs.Places.{VersionRight, PlaceRight, Kept, InOperation, WorkerRight, Invariant, place-later, version-later, kept-by-effect, kept-in-table, moved-later}
+use Rattle.history.specs.Places.{VersionRight, PlaceRight, Kept, InOperation, WorkerRight, Invariant, place-later, version-later,
+    kept-by-effect, kept-in-table, moved-later}
 use Rattle.history.specs.Step.{unchanged, step-keeps}
 
 -- ---- refusals
@@ -31,21 +35,21 @@ unless-all P s (r ∷ rs) x p f = by-test (λ (y : Move). P (y .leaves)) (r .whe
 
 -- ---- start and register: the table gets a new line, at now
 
-module _ (s : Catalogue) (J : Invariant s) where
+module _ (s : Catalogue) (invariant : Invariant s) where
   -- a version's operation began before now
   by-past : (i j : ℕ) → j < s .memory .item i .versions → s .memory .item i .author j < s .now
-  by-past i j p = omega (arith, J .kept .memory .item i .author-first j p, J .kept .memory .item i .published-past j p)
+  by-past i j p = omega (arith, invariant .kept .memory .item i .author-first j p, invariant .kept .memory .item i .published-past j p)
 
   quietly : Kept (suc (s .now)) (s .memory) (s .fate) (s .place)
   unfolding memory-after place-after
-  quietly = kept-by-effect (J .kept) (s .now) (s .fate (s .now) .operation) true refl (λ l. absurd (true≢false l)) nothing tt
+  quietly = kept-by-effect (invariant .kept) (s .now) (s .fate (s .now) .operation) true refl (λ l. absurd (true≢false l)) nothing tt
 
   stay : Later (s .now) (s .memory) (s .memory)
   unfolding memory-after
-  stay = effect-later (J .kept .memory) 0 take-snapshot false nothing tt
+  stay = effect-later (invariant .kept .memory) 0 take-snapshot false nothing tt
 
   below : (i : ℕ) → T (not (leb (s .memory .items) i)) → 0 < s .memory .item i .valid
-  below i x = J .kept .memory .registered i (nleb→lt (s .memory .items) i x)
+  below i x = invariant .kept .memory .registered i (nleb→lt (s .memory .items) i x)
 
   gone : (h : ℕ) → T (not (leb (s .memory .camera .counter) h)) → h < s .memory .camera .counter
   gone h x = nleb→lt (s .memory .camera .counter) h x
@@ -57,7 +61,8 @@ module _ (s : Catalogue) (J : Invariant s) where
   first-facts (v-cas i a b) x = (refl, below i (x .0))
   first-facts take-snapshot x = refl
   first-facts (read-snapshot i h) x =
-      (refl, record { some = below i (x .0); low = nltb→le h (s .memory .item i .stamp 0) (x .1 .1 .0); gone = gone h (x .1 .0); when = J .kept .memory .left-past h (gone h (x .1 .0)) })
+      (refl, record { some = below i (x .0); low = nltb→le h (s .memory .item i .stamp 0) (x .1 .1 .0); gone = gone h (x .1 .0);
+          when = invariant .kept .memory .left-past h (gone h (x .1 .0)) })
   first-facts (total q h) x =
       by-eq (λ (ph : Phase). PhaseFacts (suc (s .now)) (s .now) [] (s .memory) ph) 0 (s .memory .items)
         (λ e. subst (λ (i : ℕ). Totals (suc (s .now)) (s .now) (s .memory) q h (s .memory .items) i 0 []) e none)
@@ -66,8 +71,10 @@ module _ (s : Catalogue) (J : Invariant s) where
       none : Totals (suc (s .now)) (s .now) (s .memory) q h (s .memory .items) 0 0 []
       none =
           record {
-            gone = gone h (x .1 .0); when = J .kept .memory .left-past h (gone h (x .1 .0)); at = omega arith; registered = omega arith; have = λ i p. J .kept .memory .registered i p;
-            covers = λ i p r. absurd (omega (arith, J .kept .memory .unregistered i p, J .kept .memory .item i .valid-published)); sum = empty }
+            gone = gone h (x .1 .0); when = invariant .kept .memory .left-past h (gone h (x .1 .0)); at = omega arith; registered = omega arith;
+                have = λ i p. invariant .kept .memory .registered i p;
+            covers = λ i p r. absurd (omega (arith, invariant .kept .memory .unregistered i p, invariant .kept .memory .item i .valid-published));
+                sum = empty }
 
   first-operation : (op : Operation) → Passed (start-refusals (s .memory) op) → op ≡ phase-operation (first-phase (s .memory) op)
   unfolding first-phase total-at
@@ -92,7 +99,9 @@ module _ (s : Catalogue) (J : Invariant s) where
   unfolding begun tick
   begun-keeps w op y =
       record { kept = kept; workers = λ w'. workers y w';
-        moved = λ h p. moved-later stay h p (ap (λ (f : Fate). f .operation) (put-other (s .fate) (s .now) f _ (omega (arith, J .moved h p .begun)))) (put-other (s .place) (s .now) unplaced _ (omega (arith, J .moved h p .begun))) (J .moved h p) }
+        moved = λ h p. moved-later stay h p
+            (ap (λ (f : Fate). f .operation) (put-other (s .fate) (s .now) f _ (omega (arith, invariant .moved h p .begun))))
+            (put-other (s .place) (s .now) unplaced _ (omega (arith, invariant .moved h p .begun))) (invariant .moved h p) }
     where
       f : Fate
       f = record { operation = op; worker = w; done = false; answer = 0; ended-at = 0; lines = []; refusal = 0 }
@@ -101,21 +110,30 @@ module _ (s : Catalogue) (J : Invariant s) where
       place' : ℕ → Place
       place' = put (s .place) (s .now) unplaced
       kept : Kept (suc (s .now)) (s .memory) fate' place'
-      kept = kept-in-table quietly (λ i j p. ap (λ (f : Fate). f .operation) (put-other (s .fate) (s .now) f _ (omega (arith, by-past i j p)))) (λ i j p. put-other (s .place) (s .now) unplaced _ (omega (arith, by-past i j p)))
-        (λ q. put-all (λ (q : ℕ) (f : Fate). FateLines f) (s .fate) (s .now) f q (λ e. record { whole = λ d. absurd (true≢false (sym d)); refused = λ d. absurd (d refl) }) (λ e. J .kept .lines q))
-        (λ q. put-both (λ (q : ℕ) (f : Fate) (p : Place). PlaceRight (suc (s .now)) q (s .memory) f p) (s .fate) (s .place) (s .now) f unplaced q (λ e. refl) (λ e. quietly .places q))
+      kept = kept-in-table quietly (λ i j p. ap (λ (f : Fate). f .operation) (put-other (s .fate) (s .now) f _ (omega (arith, by-past i j p))))
+          (λ i j p. put-other (s .place) (s .now) unplaced _ (omega (arith, by-past i j p)))
+        (λ q. put-all (λ (q : ℕ) (f : Fate). FateLines f) (s .fate) (s .now) f q
+            (λ e. record { whole = λ d. absurd (true≢false (sym d)); refused = λ d. absurd (d refl) }) (λ e. invariant .kept .lines q))
+        (λ q. put-both (λ (q : ℕ) (f : Fate) (p : Place). PlaceRight (suc (s .now)) q (s .memory) f p) (s .fate) (s .place) (s .now) f unplaced q
+            (λ e. refl) (λ e. quietly .places q))
       stays : (w' : ℕ) (x : Worker) → WorkerRight (s .now) (s .memory) (s .fate) (s .place) w' x → WorkerRight (suc (s .now)) (s .memory) fate' place' w' x
       stays w' idle k = tt
       stays w' (busy o l ph) k =
-          record { begun = omega (arith, k .begun); worker = ap (λ (f : Fate). f .worker) e ∙ k .worker; operation = ap (λ (f : Fate). f .operation) e ∙ k .operation; unset = ap (λ (f : Fate). f .done) e ∙ k .unset; unpub = λ b. put-other (s .place) (s .now) unplaced o (omega (arith, k .begun)) ∙ k .unpub b; facts = phase-later o stay (k .begun) (J .kept .memory) l ph (k .facts) }
+          record { begun = omega (arith, k .begun); worker = ap (λ (f : Fate). f .worker) e ∙ k .worker; operation = ap (λ (f : Fate). f .operation) e
+              ∙ k .operation; unset = ap (λ (f : Fate). f .done) e ∙ k .unset; unpub = λ b. put-other (s .place) (s .now) unplaced o
+              (omega (arith, k .begun)) ∙ k .unpub b; facts = phase-later o stay (k .begun) (invariant .kept .memory) l ph (k .facts) }
         where
           e : fate' o ≡ s .fate o
           e = put-other (s .fate) (s .now) f o (omega (arith, k .begun))
-      workers : Passed (start-refusals (s .memory) op) → (w' : ℕ) → WorkerRight (suc (s .now)) (s .memory) fate' place' w' (put (s .worker) w (busy (s .now) [] (first-phase (s .memory) op)) w')
+      workers : Passed (start-refusals (s .memory) op) → (w' : ℕ) → WorkerRight (suc (s .now)) (s .memory) fate' place' w'
+          (put (s .worker) w (busy (s .now) [] (first-phase (s .memory) op)) w')
       workers y w' =
-          put-all (λ (w' : ℕ) (x : Worker). WorkerRight (suc (s .now)) (s .memory) fate' place' w' x) (s .worker) w (busy (s .now) [] (first-phase (s .memory) op)) w'
-            (λ z. record { begun = omega arith; worker = ap (λ (f : Fate). f .worker) new ∙ sym z; operation = ap (λ (f : Fate). f .operation) new ∙ first-operation op y; unset = ap (λ (f : Fate). f .done) new; unpub = λ b. put-same (s .place) (s .now) unplaced (s .now) refl; facts = first-facts op y })
-            (λ z. stays w' (s .worker w') (J .workers w'))
+          put-all (λ (w' : ℕ) (x : Worker). WorkerRight (suc (s .now)) (s .memory) fate' place' w' x) (s .worker) w
+              (busy (s .now) [] (first-phase (s .memory) op)) w'
+            (λ z. record { begun = omega arith; worker = ap (λ (f : Fate). f .worker) new ∙ sym z; operation = ap (λ (f : Fate). f .operation) new
+                ∙ first-operation op y; unset = ap (λ (f : Fate). f .done) new; unpub = λ b. put-same (s .place) (s .now) unplaced (s .now) refl;
+                facts = first-facts op y })
+            (λ z. stays w' (s .worker w') (invariant .workers w'))
         where
           new : fate' (s .now) ≡ f
           new = put-same (s .fate) (s .now) f (s .now) refl
@@ -123,12 +141,26 @@ module _ (s : Catalogue) (J : Invariant s) where
   pub registered-later : (v z y : ℕ) → Later (s .now) (s .memory) (registered s v z y .memory)
   unfolding registered
   registered-later v z y =
-      record { camera = camera-stays; limits = refl; items = omega arith; item = λ n. put-all (λ (n : ℕ) (x : Item). LaterItem (s .now) (s .memory .item n) x) (s .memory .item) (s .memory .items) (newborn (s .now) (s .memory .camera .counter) v z y) n (λ e. newborn-later (J .kept .memory .unregistered n (omega arith)) (omega (arith, J .kept .memory .unregistered n (omega arith), J .kept .memory .item n .valid-published))) (λ e. item-same (J .kept .memory .item n .valid-published)); new-author = λ n q. put-all (λ (n : ℕ) (x : Item). 0 < x .valid → s .now ≤ x .author 0) (s .memory .item) (s .memory .items) (newborn (s .now) (s .memory .camera .counter) v z y) n (λ e r. omega arith) (λ e r. absurd (omega (arith, J .kept .memory .item n .valid-published))) }
+      record { camera = camera-stays; limits = refl; items = omega arith;
+          item = λ n. put-all (λ (n : ℕ) (x : Item). LaterItem (s .now) (s .memory .item n) x) (s .memory .item) (s .memory .items)
+          (newborn (s .now) (s .memory .camera .counter) v z y) n
+          (λ e. newborn-later (invariant .kept .memory .unregistered n (omega arith))
+          (omega (arith, invariant .kept .memory .unregistered n (omega arith), invariant .kept .memory .item n .valid-published)))
+          (λ e. item-same (invariant .kept .memory .item n .valid-published));
+          new-author = λ n q. put-all (λ (n : ℕ) (x : Item). 0 < x .valid → s .now ≤ x .author 0) (s .memory .item) (s .memory .items)
+          (newborn (s .now) (s .memory .camera .counter) v z y) n (λ e r. omega arith)
+          (λ e r. absurd (omega (arith, invariant .kept .memory .item n .valid-published))) }
 
   register-keeps : (v z y : ℕ) → Invariant (tick (registered s v z y))
   unfolding tick registered
   register-keeps v z y =
-      record { kept = record { lines = λ q. put-all (λ (q : ℕ) (f : Fate). FateLines f) (s .fate) (s .now) f q (λ e. record { whole = λ d. refl; refused = λ d. absurd (d refl) }) (λ e. J .kept .lines q); memory = memory; versions-right = λ i j. versions-right i j; places = λ q. places q }; workers = λ w. stays w (s .worker w) (J .workers w); moved = λ h p. moved-later L h p (ap (λ (f : Fate). f .operation) (put-other (s .fate) (s .now) f _ (omega (arith, J .moved h p .begun)))) (put-other (s .place) (s .now) _ _ (omega (arith, J .moved h p .begun))) (J .moved h p) }
+      record { kept =
+          record { lines = λ q. put-all (λ (q : ℕ) (f : Fate). FateLines f) (s .fate) (s .now) f q
+          (λ e. record { whole = λ d. refl; refused = λ d. absurd (d refl) }) (λ e. invariant .kept .lines q); memory = memory;
+          versions-right = λ i j. versions-right i j; places = λ q. places q }; workers = λ w. stays w (s .worker w) (invariant .workers w);
+          moved = λ h p. moved-later L h p
+          (ap (λ (f : Fate). f .operation) (put-other (s .fate) (s .now) f _ (omega (arith, invariant .moved h p .begun))))
+          (put-other (s .place) (s .now) _ _ (omega (arith, invariant .moved h p .begun))) (invariant .moved h p) }
     where
       m : Memory
       m = s .memory
@@ -147,30 +179,43 @@ module _ (s : Catalogue) (J : Invariant s) where
       memory : MemoryFacts (suc (s .now)) m'
       memory =
           record {
-            left-past = λ h p. omega (arith, J .kept .memory .left-past h p);
-            item = λ n. put-all (λ (n : ℕ) (x : Item). ItemFacts (suc (s .now)) (m .camera) x) (m .item) (m .items) it n (λ e. newborn-facts (J .kept .memory .left-past)) (λ e. item-stays camera-stays (J .kept .memory .item n));
+            left-past = λ h p. omega (arith, invariant .kept .memory .left-past h p);
+            item = λ n. put-all (λ (n : ℕ) (x : Item). ItemFacts (suc (s .now)) (m .camera) x) (m .item) (m .items) it n
+                (λ e. newborn-facts (invariant .kept .memory .left-past)) (λ e. item-stays camera-stays (invariant .kept .memory .item n));
             births = λ a b p q. put-all (λ (a : ℕ) (x : Item). a < b → x .author 0 < put (m .item) (m .items) it b .author 0) (m .item) (m .items) it a
               (λ e r. absurd (omega arith))
-              (λ e r. put-all (λ (b : ℕ) (x : Item). b < suc (m .items) → a < b → m .item a .author 0 < x .author 0) (m .item) (m .items) it b (λ f u w. by-past a 0 (omega (arith, J .kept .memory .registered a (omega arith), J .kept .memory .item a .valid-published))) (λ f u w. J .kept .memory .births a b w (omega arith)) q p) p;
-            registered = λ n p. put-all (λ (n : ℕ) (x : Item). 0 < x .valid) (m .item) (m .items) it n (λ e. omega arith) (λ e. J .kept .memory .registered n (omega arith));
-            unregistered = λ n p. put-all (λ (n : ℕ) (x : Item). x .versions ≡ 0) (m .item) (m .items) it n (λ e. absurd (omega arith)) (λ e. J .kept .memory .unregistered n (omega arith)) }
+              (λ e r. put-all (λ (b : ℕ) (x : Item). b < suc (m .items) → a < b → m .item a .author 0 < x .author 0) (m .item) (m .items) it b
+                  (λ f u w. by-past a 0
+                  (omega (arith, invariant .kept .memory .registered a (omega arith), invariant .kept .memory .item a .valid-published)))
+                  (λ f u w. invariant .kept .memory .births a b w (omega arith)) q p) p;
+            registered = λ n p. put-all (λ (n : ℕ) (x : Item). 0 < x .valid) (m .item) (m .items) it n (λ e. omega arith)
+                (λ e. invariant .kept .memory .registered n (omega arith));
+            unregistered = λ n p. put-all (λ (n : ℕ) (x : Item). x .versions ≡ 0) (m .item) (m .items) it n (λ e. absurd (omega arith))
+                (λ e. invariant .kept .memory .unregistered n (omega arith)) }
       versions-right : (i j : ℕ) → j < put (m .item) (m .items) it i .versions → VersionRight fate' place' i (put (m .item) (m .items) it i) j
       versions-right i j =
           put-all (λ (i : ℕ) (x : Item). j < x .versions → VersionRight fate' place' i x j) (m .item) (m .items) it i
             (λ e p. subst (λ (i : ℕ). VersionRight fate' place' i it j) (sym e) (subst (λ (j : ℕ). VersionRight fate' place' (m .items) it j) (omega arith)
-              (record { asked = ap (λ (f : Fate). f .operation) (put-same (s .fate) (s .now) f (s .now) refl); valid = λ z. put-same (s .place) (s .now) (changes (m .items) 0) (s .now) refl; unset = λ z. absurd (omega arith) })))
-            (λ e p. version-later (item-same {t = s .now} (J .kept .memory .item i .valid-published)) i j p (λ z. z) (ap (λ (f : Fate). f .operation) (put-other (s .fate) (s .now) f _ (omega (arith, by-past i j p)))) (put-other (s .place) (s .now) (changes (m .items) 0) _ (omega (arith, by-past i j p))) (J .kept .versions-right i j p))
+              (record { asked = ap (λ (f : Fate). f .operation) (put-same (s .fate) (s .now) f (s .now) refl);
+                  valid = λ z. put-same (s .place) (s .now) (changes (m .items) 0) (s .now) refl; unset = λ z. absurd (omega arith) })))
+            (λ e p. version-later (item-same {t = s .now} (invariant .kept .memory .item i .valid-published)) i j p (λ z. z)
+                (ap (λ (f : Fate). f .operation) (put-other (s .fate) (s .now) f _ (omega (arith, by-past i j p))))
+                (put-other (s .place) (s .now) (changes (m .items) 0) _ (omega (arith, by-past i j p))) (invariant .kept .versions-right i j p))
       new : put (m .item) (m .items) it (m .items) ≡ it
       new = put-same (m .item) (m .items) it (m .items) refl
       places : (q : ℕ) → PlaceRight (suc (s .now)) q m' (fate' q) (place' q)
       places q =
           put-both (λ (q : ℕ) (f : Fate) (p : Place). PlaceRight (suc (s .now)) q m' f p) (s .fate) (s .place) (s .now) f (changes (m .items) 0) q
-            (λ e. record { good = subst (λ (x : Item). 0 < x .valid) (sym new) (omega arith); mine = ap (λ (x : Item). x .author 0) new ∙ sym e; till = λ d. subst (λ (x : Item). x .effect-at 0 ≤ s .now) (sym new) (omega arith); past = λ d. omega arith; is = λ d. refl; register-done = λ d. refl; register-ended = λ d. sym e })
-            (λ e. place-later (J .kept .memory) L q (s .fate q) (s .place q) (J .kept .places q))
+            (λ e. record { good = subst (λ (x : Item). 0 < x .valid) (sym new) (omega arith); mine = ap (λ (x : Item). x .author 0) new ∙ sym e;
+                till = λ d. subst (λ (x : Item). x .effect-at 0 ≤ s .now) (sym new) (omega arith); past = λ d. omega arith; is = λ d. refl;
+                register-done = λ d. refl; register-ended = λ d. sym e })
+            (λ e. place-later (invariant .kept .memory) L q (s .fate q) (s .place q) (invariant .kept .places q))
       stays : (w' : ℕ) (x : Worker) → WorkerRight (s .now) (s .memory) (s .fate) (s .place) w' x → WorkerRight (suc (s .now)) m' fate' place' w' x
       stays w' idle k = tt
       stays w' (busy o l ph) k =
-          record { begun = omega (arith, k .begun); worker = ap (λ (f : Fate). f .worker) e ∙ k .worker; operation = ap (λ (f : Fate). f .operation) e ∙ k .operation; unset = ap (λ (f : Fate). f .done) e ∙ k .unset; unpub = λ b. put-other (s .place) (s .now) (changes (m .items) 0) o (omega (arith, k .begun)) ∙ k .unpub b; facts = phase-later o L (k .begun) (J .kept .memory) l ph (k .facts) }
+          record { begun = omega (arith, k .begun); worker = ap (λ (f : Fate). f .worker) e ∙ k .worker; operation = ap (λ (f : Fate). f .operation) e
+              ∙ k .operation; unset = ap (λ (f : Fate). f .done) e ∙ k .unset; unpub = λ b. put-other (s .place) (s .now) (changes (m .items) 0) o
+              (omega (arith, k .begun)) ∙ k .unpub b; facts = phase-later o L (k .begun) (invariant .kept .memory) l ph (k .facts) }
         where
           e : fate' o ≡ s .fate o
           e = put-other (s .fate) (s .now) f o (omega (arith, k .begun))
@@ -179,23 +224,26 @@ module _ (s : Catalogue) (J : Invariant s) where
 
 start-keeps : (s : Catalogue) → Invariant s → (w : ℕ) (op : Operation) → Invariant (tick (starting s w op .leaves))
 unfolding starting
-start-keeps s J w op =
-    unless-all (λ (s : Catalogue). Invariant (tick s)) s (worker-refusals s w op) (record { answer = accepted 0; leaves = begun s w op }) (unchanged s J)
-      (λ x. begun-keeps s J w op (x .1 .1))
+start-keeps s invariant w op =
+    unless-all (λ (s : Catalogue). Invariant (tick s)) s (worker-refusals s w op) (record { answer = accepted 0; leaves = begun s w op })
+        (unchanged s invariant)
+      (λ x. begun-keeps s invariant w op (x .1 .1))
 
 pub call-keeps : (s : Catalogue) (c : Call) → Invariant s → Invariant (call s c)
 unfolding call move registering stepping
-call-keeps s (Call.make p m n q c) J = unchanged s J
-call-keeps s (Call.register v z) J =
-    unless-all (λ (s : Catalogue). Invariant (tick s)) s (register-refusals (s .memory) v) (record { answer = accepted (s .memory .items); leaves = registered s v z (found (node-to-take (s .memory))) }) (unchanged s J)
-      (λ x. register-keeps s J v z (found (node-to-take (s .memory))))
-call-keeps s (Call.v-read w i) J = start-keeps s J w (v-read i)
-call-keeps s (Call.v-cas w i a b) J = start-keeps s J w (v-cas i a b)
-call-keeps s (Call.take-snapshot w) J = start-keeps s J w take-snapshot
-call-keeps s (Call.read-snapshot w i h) J = start-keeps s J w (read-snapshot i h)
-call-keeps s (Call.total w q h) J = start-keeps s J w (total q h)
-call-keeps s (Call.step w) J =
-    unless-all (λ (s : Catalogue). Invariant (tick s)) s (step-refusals s w) (stepped s w (s .worker w)) (unchanged s J) (λ x. step-keeps s w (s .worker w) J (J .workers w))
+call-keeps s (Call.make p m n q c) invariant = unchanged s invariant
+call-keeps s (Call.register v z) invariant =
+    unless-all (λ (s : Catalogue). Invariant (tick s)) s (register-refusals (s .memory) v)
+        (record { answer = accepted (s .memory .items); leaves = registered s v z (found (node-to-take (s .memory))) }) (unchanged s invariant)
+      (λ x. register-keeps s invariant v z (found (node-to-take (s .memory))))
+call-keeps s (Call.v-read w i) invariant = start-keeps s invariant w (v-read i)
+call-keeps s (Call.v-cas w i a b) invariant = start-keeps s invariant w (v-cas i a b)
+call-keeps s (Call.take-snapshot w) invariant = start-keeps s invariant w take-snapshot
+call-keeps s (Call.read-snapshot w i h) invariant = start-keeps s invariant w (read-snapshot i h)
+call-keeps s (Call.total w q h) invariant = start-keeps s invariant w (total q h)
+call-keeps s (Call.step w) invariant =
+    unless-all (λ (s : Catalogue). Invariant (tick s)) s (step-refusals s w) (stepped s w (s .worker w)) (unchanged s invariant)
+        (λ x. step-keeps s w (s .worker w) invariant (invariant .workers w))
 
 fresh-right : (limits : Limits) → Invariant (fresh limits)
 unfolding fresh
@@ -203,10 +251,13 @@ fresh-right limits =
     record {
       kept = record {
         memory = record {
-          left-past = λ h p. absurd (omega arith); registered = λ i p. absurd (omega arith); unregistered = λ i p. refl; births = λ i n p q. absurd (omega arith);
+          left-past = λ h p. absurd (omega arith); registered = λ i p. absurd (omega arith); unregistered = λ i p. refl;
+              births = λ i n p q. absurd (omega arith);
           item = λ i. record {
-            valid-published = omega arith; one-open = omega arith; first = λ p. omega arith; birth = λ p. absurd (omega arith); published-past = λ j p. omega arith;
-            author-first = λ j p. omega arith; author-before = λ j p. omega arith; effect-after-46 = λ j p. omega arith; effect-before-22 = λ j p. omega arith;
+            valid-published = omega arith; one-open = omega arith; first = λ p. omega arith; birth = λ p. absurd (omega arith);
+                published-past = λ j p. omega arith;
+            author-first = λ j p. omega arith; author-before = λ j p. omega arith; effect-after-46 = λ j p. omega arith;
+                effect-before-22 = λ j p. omega arith;
             stamped-past = λ j p. omega arith; next = λ j p. omega arith; differ = λ j p. omega arith; counted = λ j p. absurd (omega arith) } };
         versions-right = λ i j p. absurd (omega arith);
         places = λ o. refl;

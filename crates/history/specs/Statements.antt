@@ -1,4 +1,6 @@
 -- What is promised of a run, told by its notes: the instants of document 01, the one order of demand 2, and the exact reads of demand 3.
+-- Letters: o, q and c are operations, named by the times of their starts; i is an item, v a value, h a handle; τ is an instant, and t, f, p, r and s
+-- are times of calls: f of a fetch of the head, p of a publication at 46, r of a line 21 and s of the line 22 after it.
 use mathlib.Core.Path.{_≡_}
 use mathlib.Core.Logic.{_⊎_}
 use mathlib.Core.Bool.{Bool, true, false, cond}
@@ -9,6 +11,16 @@ use Rattle.history.specs.Definition1.{Operation, register, v-read, v-cas
 use Rattle.history.specs.Notes.{Deed, fetches, publishes, stamps, moves, nothing, Ending, Note, stepped}
 use Rattle.history.specs.Ledger.{Fate, Ledger, ledger, found-TBD, read-lines}
 use Rattle.history.specs.Effects.{Effect, birth, snapshot, effects, value-at, changed-between, count-if, total-at}
+
+-- what operation o came to, and that it answered
+abbrev pub fate-of : List Note → ℕ → Fate
+fate-of run o = ledger run .fate o
+abbrev pub Finished : List Note → ℕ → Type 0
+Finished run o = fate-of run o .done ≡ true
+
+-- the line with which it ended
+abbrev pub last-line : Fate → ℕ
+last-line f = getD (f .lines) 0 0
 
 -- ---- events
 
@@ -83,7 +95,7 @@ pub data CasInstant (run : List Note) (o i line τ : ℕ) : Type 0 where
 abbrev pub Instant : List Note → ℕ → Fate → Operation → ℕ → Type 0
 Instant run o f (register i v s) τ = τ ≡ o
 Instant run o f (v-read i) τ = HeadInstant run o i 37 τ
-Instant run o f (v-cas i old new) τ = CasInstant run o i (getD (f .lines) 0 0) τ
+Instant run o f (v-cas i old new) τ = CasInstant run o i (last-line f) τ
 Instant run o f take-snapshot τ = (q : ℕ) × Executed run q 6 (moves (f .answer)) τ
 Instant run o f (read-snapshot i h) τ = τ ≡ f .ended-at
 Instant run o f (total q h) τ = τ ≡ f .ended-at
@@ -109,11 +121,11 @@ acts operation answer (o ∷ l) = record { operation = operation o; answer = ans
 
 -- a vCAS that has not answered, and whose node has its stamp
 pub record Pending (run : List Note) (o τ : ℕ) : Type 0 where
-  pub unfinished : ledger run .fate o .done ≡ false
+  pub unfinished : fate-of run o .done ≡ false
   pub i : ℕ
   pub old : ℕ
   pub new : ℕ
-  pub asked : ledger run .fate o .operation ≡ v-cas i old new
+  pub asked : fate-of run o .operation ≡ v-cas i old new
   pub changed : ChangeInstant run o i τ
 
 -- after its start and not after its answer; a register in its own call
@@ -146,14 +158,15 @@ pub record OneOrder (run : List Note) : Type 0 where
   pub time : ℕ → ℕ
   pub answer : ℕ → ℕ
   pub once : Once order
-  pub all : (o : ℕ) → o < length run → ledger run .fate o .done ≡ true → In o order
-  pub only : (o : ℕ) → In o order → (ledger run .fate o .done ≡ true) ⊎ Pending run o (time o)
-  pub within : (o : ℕ) → In o order → Within (ledger run .fate o) o (time o)
+  pub all : (o : ℕ) → o < length run → Finished run o → In o order
+  pub only : (o : ℕ) → In o order → (Finished run o) ⊎ Pending run o (time o)
+  pub within : (o : ℕ) → In o order → Within (fate-of run o) o (time o)
   pub falling : Falling time order
-  pub instants : (o : ℕ) → o < length run → ledger run .fate o .done ≡ true → Instant run o (ledger run .fate o) (ledger run .fate o .operation) (time o)
-  pub immediately : (o i old new : ℕ) → ledger run .fate o .operation ≡ v-cas i old new → ledger run .fate o .done ≡ true → getD (ledger run .fate o .lines) 0 0 ≡ 52 → Immediately run o i order
-  pub answered : (o : ℕ) → In o order → ledger run .fate o .done ≡ true → ledger run .fate o .answer ≡ answer o
-  pub legal : Legal (acts (λ o. ledger run .fate o .operation) answer order)
+  pub instants : (o : ℕ) → o < length run → Finished run o → Instant run o (fate-of run o) (fate-of run o .operation) (time o)
+  pub immediately : (o i old new : ℕ) → fate-of run o .operation ≡ v-cas i old new → Finished run o → last-line (fate-of run o) ≡ 52 →
+    Immediately run o i order
+  pub answered : (o : ℕ) → In o order → Finished run o → fate-of run o .answer ≡ answer o
+  pub legal : Legal (acts (λ o. fate-of run o .operation) answer order)
 
 -- ---- exact reads
 
@@ -166,16 +179,18 @@ Among x (y ∷ l) = (x ≡ y) ⊎ Among x l
 pub record ExactRead (run : List Note) (o i h : ℕ) : Type 0 where
   pub left : ℕ
   pub taken : Among (record { time = left; what = snapshot h }) (effects run)
-  pub answer : ledger run .fate o .answer ≡ value-at (effects run) i left
+  pub answer : fate-of run o .answer ≡ value-at (effects run) i left
   pub f : ℕ
   pub valid : Bool
   pub fetched : Executed run o 32 (fetches i valid) f
-  pub steps : length (ledger run .fate o .lines) ≡ count-if (changed-between i left f) (effects run) + cond (found-TBD (ledger run .fate o .lines)) 5 3
+  pub steps :
+    length (fate-of run o .lines) ≡ count-if (changed-between i left f) (effects run) + cond (found-TBD (fate-of run o .lines)) 5 3
 
 -- The lines of a total, item by item: one for an item born after the counter left the handle, else those of a read whose line 32 was executed at f.
 pub data TotalLines (all : List Effect) (left o ended : ℕ) : ℕ → List ℕ → Type 0 where
   no-item : TotalLines all left o ended 0 []
-  born-later : {i : ℕ} {l : List ℕ} (t v s : ℕ) → Among (record { time = t; what = birth i v s }) all → left < t → TotalLines all left o ended i l → TotalLines all left o ended (suc i) (32 ∷ l)
+  born-later : {i : ℕ} {l : List ℕ} (t v s : ℕ) → Among (record { time = t; what = birth i v s }) all → left < t →
+    TotalLines all left o ended i l → TotalLines all left o ended (suc i) (32 ∷ l)
   read : {i : ℕ} {l : List ℕ} (tbd : Bool) (f : ℕ) → o < f → f ≤ ended → TotalLines all left o ended i l →
     TotalLines all left o ended (suc i) (read-lines tbd (count-if (changed-between i left f) all) ++ l)
 
@@ -183,8 +198,8 @@ pub data TotalLines (all : List Effect) (left o ended : ℕ) : ℕ → List ℕ 
 pub record ExactTotal (run : List Note) (o q h : ℕ) : Type 0 where
   pub left : ℕ
   pub taken : Among (record { time = left; what = snapshot h }) (effects run)
-  pub answer : ledger run .fate o .answer ≡ total-at (effects run) q left
+  pub answer : fate-of run o .answer ≡ total-at (effects run) q left
   pub items : ℕ
   pub lines : List ℕ
-  pub each : TotalLines (effects run) left o (ledger run .fate o .ended-at) items lines
-  pub closing : ledger run .fate o .lines ≡ 0 ∷ lines
+  pub each : TotalLines (effects run) left o (fate-of run o .ended-at) items lines
+  pub closing : fate-of run o .lines ≡ 0 ∷ lines

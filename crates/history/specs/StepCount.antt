@@ -11,9 +11,12 @@ use Rattle.definitions.specs.Calls.{Call}
 use Rattle.history.specs.Tools.{Split, split}
 use Rattle.history.specs.Ledger.{found-TBD}
 use Rattle.history.specs.Counts.{help-steps, CasSteps, ends-43, ends-48, ends-52}
-use Rattle.history.specs.Machine.{Item, Memory, Limits, Operation, register, v-read, v-cas, take-snapshot, read-snapshot, total, Then, then-39, then-43, then-48, then-52, then-34, then-total-34, Phase, line-37, line-39, line-41, line-43, line-45, line-46, line-48, line-50, line-51, line-52, line-5, line-6, line-32, line-34, total-32, total-34, closing, line-20, line-21, line-22, Worker, idle, busy, Catalogue, after-calls}
+use Rattle.history.specs.Machine.{Item, Memory, Limits, Operation, register, v-read, v-cas, take-snapshot, read-snapshot, total, Then, then-39,
+    then-43, then-48, then-52, then-34, then-total-34, Phase, line-37, line-39, line-41, line-43, line-45, line-46, line-48, line-50, line-51,
+    line-52, line-5, line-6, line-32, line-34, total-32, total-34, closing, line-20, line-21, line-22, Worker, idle, busy, Catalogue, after-calls}
 use Rattle.history.specs.Facts.{Read, Sum, empty, skip, plus, helped, read-lines, ItemFacts, MemoryFacts}
-use Rattle.history.specs.PhaseFacts.{Tried, Totals, TotalReading, Passing, TotalWalking, Walked, ThenFacts, Helping, Storing, Helped, PhaseFacts}
+use Rattle.history.specs.PhaseFacts.{Tried, Totals, TotalReading, Passing, TotalWalking, Walked, ThenFacts, Helping, Storing, Helped,
+    PhaseFacts}
 use Rattle.history.specs.RightAnswers.{CasLines, to-43, to-48, to-52, WholeLines, RefusedLines, no-node-left, counter-full, TotalRead}
 use Rattle.history.specs.Places.{Invariant, InOperation, WorkerRight}
 use Rattle.history.specs.NodeCount.{sum-to, sum-rises, Tally, tally, limits-kept}
@@ -60,9 +63,11 @@ v-read-steps i l (false, e) = subst (λ (l : List ℕ). length l ≡ cond (found
 pub v-cas-steps : (l : List ℕ) → CasLines l → CasSteps l
 v-cas-steps l (to-43 b e) = ends-43 b (ap (λ (l : List ℕ). getD l 0 0) e) (ap length e ∙ omega (arith, length-helped b (41 ∷ [])))
 v-cas-steps l (to-48 a b e) =
-    ends-48 a b (ap (λ (l : List ℕ). getD l 0 0) e) (ap length e ∙ omega (arith, length-helped b (46 ∷ 45 ∷ 43 ∷ helped a (41 ∷ [])), length-helped a (41 ∷ [])))
+    ends-48 a b (ap (λ (l : List ℕ). getD l 0 0) e)
+        (ap length e ∙ omega (arith, length-helped b (46 ∷ 45 ∷ 43 ∷ helped a (41 ∷ [])), length-helped a (41 ∷ [])))
 v-cas-steps l (to-52 a b e) =
-    ends-52 a b (ap (λ (l : List ℕ). getD l 0 0) e) (ap length e ∙ omega (arith, length-helped b (51 ∷ 50 ∷ 46 ∷ 45 ∷ 43 ∷ helped a (41 ∷ [])), length-helped a (41 ∷ [])))
+    ends-52 a b (ap (λ (l : List ℕ). getD l 0 0) e)
+        (ap length e ∙ omega (arith, length-helped b (51 ∷ 50 ∷ 46 ∷ 45 ∷ 43 ∷ helped a (41 ∷ [])), length-helped a (41 ∷ [])))
 
 -- at most 13
 pub v-cas-bound : (l : List ℕ) → CasSteps l → length l ≤ 13
@@ -71,7 +76,8 @@ v-cas-bound l (ends-48 a b q e) = omega (arith, help-bound a, help-bound b)
 v-cas-bound l (ends-52 a b q e) = omega (arith, help-bound a, help-bound b)
 
 -- 12 comes after 1 step, and 11 after 4 or 6
-pub refused-steps : (number : ℕ) (op : Operation) (l : List ℕ) → RefusedLines number op l → ((number ≡ 12) × (length l ≡ 1)) ⊎ ((number ≡ 11) × (length l ≡ cond (found-TBD l) 6 4))
+pub refused-steps : (number : ℕ) (op : Operation) (l : List ℕ) → RefusedLines number op l → ((number ≡ 12) × (length l ≡ 1))
+    ⊎ ((number ≡ 11) × (length l ≡ cond (found-TBD l) 6 4))
 refused-steps number op l (counter-full n e f) = inl (n, ap length f)
 refused-steps number op l (no-node-left i a b true n e f) = inr (n, subst (λ (l : List ℕ). length l ≡ cond (found-TBD l) 6 4) (sym f) refl)
 refused-steps number op l (no-node-left i a b false n e f) = inr (n, subst (λ (l : List ℕ). length l ≡ cond (found-TBD l) 6 4) (sym f) refl)
@@ -79,23 +85,27 @@ refused-steps number op l (no-node-left i a b false n e f) = inr (n, subst (λ (
 -- ---- bounds
 
 pub tried-bound : (xs l : List ℕ) → Tried xs l → length l ≤ length xs + 5
-tried-bound xs l x = omega (arith, ap length (x .is), length-onto xs (43 ∷ helped (x .tbd) (41 ∷ [])), length-helped (x .tbd) (41 ∷ []), help-bound (x .tbd))
+tried-bound xs l x = omega (arith, ap length (x .is), length-onto xs (43 ∷ helped (x .tbd) (41 ∷ [])), length-helped (x .tbd) (41 ∷ []),
+    help-bound (x .tbd))
 
 -- the steps of a read are at most 4 more than the versions there are
 read-bound : (t : ℕ) (m : Memory) → MemoryFacts t m → (i h o e j : ℕ) (l : List ℕ) → Read m i h o e j l → length l ≤ 4 + m .item i .versions
-read-bound t m I i h o e j l x = omega (arith, ap length (x .lines), length-read (x .tbd) (x .passed), at (x .tbd), x .at, x .good, I .item i .valid-published)
+read-bound t m known i h o e j l x = omega (arith, ap length (x .lines), length-read (x .tbd) (x .passed), at (x .tbd), x .at, x .good,
+    known .item i .valid-published)
   where
     at : (b : Bool) → cond b 5 3 ≤ 5
     at true = omega arith
     at false = omega arith
 
-pub sum-bound : (t : ℕ) (m : Memory) → MemoryFacts t m → (q h o e : ℕ) {i u : ℕ} {l : List ℕ} → Sum m q h o e i u l → length l ≤ 4 * i + sum-to (λ i. m .item i .versions) i
+pub sum-bound : (t : ℕ) (m : Memory) → MemoryFacts t m → (q h o e : ℕ) {i u : ℕ} {l : List ℕ} → Sum m q h o e i u l →
+    length l ≤ 4 * i + sum-to (λ i. m .item i .versions) i
 unfolding sum-to
-sum-bound t m I q h o e empty = omega arith
-sum-bound t m I q h o e (skip {i} {u} {l} z x y) = omega (arith, sum-bound t m I q h o e y)
-sum-bound t m I q h o e (plus {i} {u} {l} j r x y) = omega (arith, length-onto r l, read-bound t m I i h o e j r x, sum-bound t m I q h o e y)
+sum-bound t m known q h o e empty = omega arith
+sum-bound t m known q h o e (skip {i} {u} {l} z x y) = omega (arith, sum-bound t m known q h o e y)
+sum-bound t m known q h o e (plus {i} {u} {l} j r x y) = omega (arith, length-onto r l, read-bound t m known i h o e j r x, sum-bound t m known q h o e y)
 
-module _ (s : Catalogue) (J : Invariant s) (Y : Tally s) (few-items : s .memory .limits .items ≤ 256) (few-nodes : s .memory .limits .nodes ≤ 4096) where
+module _ (s : Catalogue) (invariant : Invariant s) (Y : Tally s) (few-items : s .memory .limits .items ≤ 256)
+    (few-nodes : s .memory .limits .nodes ≤ 4096) where
   all-versions : ℕ → ℕ
   all-versions n = sum-to (λ i. s .memory .item i .versions) n
 
@@ -116,15 +126,17 @@ module _ (s : Catalogue) (J : Invariant s) (Y : Tally s) (few-items : s .memory 
   one-fits i p = at (split i (s .memory .items))
     where
       at : Split i (s .memory .items) → s .memory .item i .versions ≤ 4096
-      at (Split.less q) = unfold sum-to all-versions in (omega (arith, sum-rises (λ i. s .memory .item i .versions) (suc i) (s .memory .items) q, versions-fit))
-      at (Split.more q) = absurd (omega (arith, J .kept .memory .unregistered i q))
+      at (Split.less q) = unfold sum-to all-versions in
+          (omega (arith, sum-rises (λ i. s .memory .item i .versions) (suc i) (s .memory .items) q, versions-fit))
+      at (Split.more q) = absurd (omega (arith, invariant .kept .memory .unregistered i q))
 
   passing-bound : (x j : ℕ) (r : List ℕ) → Passing x j r → length r ≤ j + 4
-  passing-bound x j r p = omega (arith, ap length (p .is), length-passed (p .passed) (helped (p .tbd) (32 ∷ [])), length-helped (p .tbd) (32 ∷ []), help-bound (p .tbd), p .count)
+  passing-bound x j r p = omega (arith, ap length (p .is), length-passed (p .passed) (helped (p .tbd) (32 ∷ [])), length-helped (p .tbd) (32 ∷ []),
+      help-bound (p .tbd), p .count)
 
   totals-bound : {q h k i u o : ℕ} {l : List ℕ} → Totals (s .now) o (s .memory) q h k i u l → length l ≤ 4 * i + all-versions i
   unfolding all-versions
-  totals-bound x = sum-bound (s .now) (s .memory) (J .kept .memory) _ _ _ _ (x .sum)
+  totals-bound x = sum-bound (s .now) (s .memory) (invariant .kept .memory) _ _ _ _ (x .sum)
 
   -- before a help, three more steps are within the bound
   then-bound : (o : ℕ) (l : List ℕ) (c : Then) (j : ℕ) → ThenFacts (s .now) o l (s .memory) c j → length l + 3 ≤ 5120
@@ -137,7 +149,8 @@ module _ (s : Catalogue) (J : Invariant s) (Y : Tally s) (few-items : s .memory 
       omega (arith, ap length (x .is), totals-bound (x .totals), one-more-fits i (omega (arith, x .more, x .totals .registered)))
 
   helped-bound : (o : ℕ) (l : List ℕ) (c : Then) (j : ℕ) → Helped (s .now) o l (s .memory) c j → length l ≤ 5120
-  helped-bound o l c j x = omega (arith, ap length (x .is), length-helped (x .tbd) (x .earlier), help-bound (x .tbd), then-bound o (x .earlier) c j (x .keeps))
+  helped-bound o l c j x = omega (arith, ap length (x .is), length-helped (x .tbd) (x .earlier), help-bound (x .tbd), then-bound o (x .earlier) c j
+      (x .keeps))
 
   phase-bound : (o : ℕ) (l : List ℕ) (ph : Phase) → PhaseFacts (s .now) o l (s .memory) ph → length l ≤ 5120
   phase-bound o l (line-37 i) x = omega (arith, ap length (x .0))
@@ -166,15 +179,18 @@ module _ (s : Catalogue) (J : Invariant s) (Y : Tally s) (few-items : s .memory 
 
   -- before a step, a worker has executed at most 5,120 lines
   pub busy-bound : (w o : ℕ) (l : List ℕ) (ph : Phase) → s .worker w ≡ busy o l ph → length l ≤ 5120
-  busy-bound w o l ph e = phase-bound o l ph (subst (λ (x : Worker). WorkerRight (s .now) (s .memory) (s .fate) (s .place) w x) e (J .workers w) .facts)
+  busy-bound w o l ph e =
+      phase-bound o l ph (subst (λ (x : Worker). WorkerRight (s .now) (s .memory) (s .fate) (s .place) w x) e (invariant .workers w) .facts)
 
   -- a finished total took at most 5,121 steps
   pub total-bound : (q h o τ x : ℕ) (l : List ℕ) → TotalRead (s .memory) q h o l τ x → length l ≤ 5121
   unfolding all-versions
-  total-bound q h o τ x l y = omega (arith, ap length (y .lines), sum-bound (s .now) (s .memory) (J .kept .memory) q h o (suc τ) (y .sum), some-fit (y .k) (y .registered))
+  total-bound q h o τ x l y = omega (arith, ap length (y .lines), sum-bound (s .now) (s .memory) (invariant .kept .memory) q h o (suc τ) (y .sum),
+      some-fit (y .k) (y .registered))
 
 -- in every run of a catalogue with at most 256 items and 4,096 nodes
 pub steps-bound : (limits : Limits) → limits .items ≤ 256 → limits .nodes ≤ 4096 → (cs : List Call) →
   (w o : ℕ) (l : List ℕ) (ph : Phase) → after-calls limits cs .worker w ≡ busy o l ph → length l ≤ 5120
 steps-bound limits a b cs =
-    busy-bound (after-calls limits cs) (run-right limits cs) (tally limits cs) (subst (λ (y : Limits). y .items ≤ 256) (sym (limits-kept limits cs)) a) (subst (λ (y : Limits). y .nodes ≤ 4096) (sym (limits-kept limits cs)) b)
+    busy-bound (after-calls limits cs) (run-right limits cs) (tally limits cs) (subst (λ (y : Limits). y .items ≤ 256) (sym (limits-kept limits cs)) a)
+        (subst (λ (y : Limits). y .nodes ≤ 4096) (sym (limits-kept limits cs)) b)

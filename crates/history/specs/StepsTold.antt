@@ -13,27 +13,20 @@ use Rattle.history.specs.Tools.{by-test}
 use Rattle.history.specs.Notes.{Deed, Ending, Note, step-note}
 use Rattle.history.specs.Notes as Notes
 use Rattle.history.specs.Ledger.{ledger}
-use Rattle.history.specs.Machine.{Limits, Phase, line-number, Comes, goes-on, ends-with, answers-change, answers, line, Worker, idle, busy, Catalogue, Move, refused, no-worker, is-idle, step-answer, stepped, stepping, move, reply, after-calls}
+use Rattle.history.specs.NoteParts.{note-tag, note-line}
+use Rattle.history.specs.Machine.{Limits, Phase, line-number, Comes, goes-on, ends-with, answers-change, answers, line, Worker, idle, busy,
+    Catalogue, Move, refused, no-worker, is-idle, step-answer, stepped, stepping, move, reply, after-calls}
 use Rattle.history.specs.MachineNotes.{phase-deed, worker-line, worker-deed, machine-note, machine-notes}
 use Rattle.history.specs.LedgerRight.{InLedger, Agrees, agrees}
-
-abbrev note-line : Note → ℕ
-note-line Notes.refused = 0
-note-line (Notes.registered i v s) = 0
-note-line (Notes.started w op) = 0
-note-line (Notes.stepped w k d e) = k
-
-abbrev note-tag : Note → ℕ
-note-tag Notes.refused = 0
-note-tag (Notes.registered i v s) = 1
-note-tag (Notes.started w op) = 2
-note-tag (Notes.stepped w k d e) = 3
 
 -- the line of a step's note is the line that the worker stands at
 step-line : (w k : ℕ) (d : Deed) (a : Answer) (k' : ℕ) (d' : Deed) (e : Ending) → step-note w k d a ≡ Notes.stepped w k' d' e → k ≡ k'
 step-line w k d a k' d' e = by (lib.Dec.eqb (a .code) 0) (lib.Dec.eqb (a .code) 1) (lib.Dec.eqb (a .code) 27) (lib.Dec.eqb (a .code) 28)
   where
-    by : (p q r s : Bool) → cond p (Notes.stepped w k d (Notes.answers (a .value))) (cond q (Notes.stepped w k d Notes.goes-on) (cond r (Notes.stepped w k d (Notes.ends-with 11)) (cond s (Notes.stepped w k d (Notes.ends-with 12)) Notes.refused))) ≡ Notes.stepped w k' d' e → k ≡ k'
+    by : (p q r s : Bool) → cond p (Notes.stepped w k d (Notes.answers (a .value)))
+        (cond q (Notes.stepped w k d Notes.goes-on)
+        (cond r (Notes.stepped w k d (Notes.ends-with 11)) (cond s (Notes.stepped w k d (Notes.ends-with 12)) Notes.refused))) ≡ Notes.stepped w k' d' e →
+        k ≡ k'
     by true q r s x = ap note-line x
     by false true r s x = ap note-line x
     by false false true s x = ap note-line x
@@ -47,20 +40,26 @@ module _ (s : Catalogue) (run : List Note) (A : Agrees s run) (w : ℕ) where
   answer-steps n (answers-change x) = refl
   answer-steps n (answers x τ j) = refl
 
-  told-steps : (k : ℕ) (d : Deed) (e : Ending) → step-note w (worker-line (s .worker w)) (worker-deed (s .memory) (s .worker w)) (stepping s w .answer) ≡ Notes.stepped w k d e → stepping s w .answer .steps ≡ length (k ∷ ledger run .lines w)
+  told-steps : (k : ℕ) (d : Deed) (e : Ending) → step-note w (worker-line (s .worker w)) (worker-deed (s .memory) (s .worker w))
+      (stepping s w .answer) ≡ Notes.stepped w k d e → stepping s w .answer .steps ≡ length (k ∷ ledger run .lines w)
   unfolding stepping
   told-steps k d e =
-      by-test (λ (y : Move). step-note w (worker-line (s .worker w)) (worker-deed (s .memory) (s .worker w)) (y .answer) ≡ Notes.stepped w k d e → y .answer .steps ≡ length (k ∷ ledger run .lines w)) (no-worker s w)
+      by-test (λ (y : Move). step-note w (worker-line (s .worker w)) (worker-deed (s .memory) (s .worker w)) (y .answer) ≡ Notes.stepped w k d e →
+          y .answer .steps ≡ length (k ∷ ledger run .lines w)) (no-worker s w)
         (λ t x. let z : _≡_ {A = ℕ} 0 3 = ap note-tag x in absurd (omega arith))
         (λ t. at (s .worker w) (A .worker w))
     where
-      at : (x : Worker) → InLedger (ledger run) w x → step-note w (worker-line x) (worker-deed (s .memory) x) (cond (is-idle x) (refused s 5) (stepped s w x) .answer) ≡ Notes.stepped w k d e → cond (is-idle x) (refused s 5) (stepped s w x) .answer .steps ≡ length (k ∷ ledger run .lines w)
+      at : (x : Worker) → InLedger (ledger run) w x → step-note w (worker-line x) (worker-deed (s .memory) x)
+          (cond (is-idle x) (refused s 5) (stepped s w x) .answer) ≡ Notes.stepped w k d e →
+          cond (is-idle x) (refused s 5) (stepped s w x) .answer .steps ≡ length (k ∷ ledger run .lines w)
       at idle i x = let z : _≡_ {A = ℕ} 0 3 = ap note-tag x in absurd (omega arith)
       at (busy o l ph) i x = unfold stepped in
           (answer-steps (line-number ph ∷ l) (line (s .now) (s .memory) ph .comes)
-            ∙ ap₂ (λ (k : ℕ) (l : List ℕ). length (k ∷ l)) (step-line w (line-number ph) (phase-deed (s .memory) ph) (stepped s w (busy o l ph) .answer) k d e x) (sym (i .1)))
+            ∙ ap₂ (λ (k : ℕ) (l : List ℕ). length (k ∷ l))
+                (step-line w (line-number ph) (phase-deed (s .memory) ph) (stepped s w (busy o l ph) .answer) k d e x) (sym (i .1)))
 
-pub steps-told : (limits : Limits) (cs : List Call) (w k : ℕ) (d : Deed) (e : Ending) → machine-note (after-calls limits cs) (Call.step w) ≡ Notes.stepped w k d e →
+pub steps-told : (limits : Limits) (cs : List Call) (w k : ℕ) (d : Deed) (e : Ending) →
+    machine-note (after-calls limits cs) (Call.step w) ≡ Notes.stepped w k d e →
   reply (after-calls limits cs) (Call.step w) .steps ≡ length (k ∷ ledger (machine-notes limits cs) .lines w)
 unfolding machine-note reply move
 steps-told limits cs w k d e x = told-steps (after-calls limits cs) (machine-notes limits cs) (agrees limits cs) w k d e x

@@ -1,7 +1,7 @@
 -- Small tools: a function changed at one place, and the two ways a test comes out.
 use mathlib.Core.Path.{_≡_, refl, ap, sym, _∙_, subst}
 use mathlib.Core.Logic.{_≢_}
-use mathlib.Core.Bool.{Bool, true, false, not, cond}
+use mathlib.Core.Bool.{Bool, true, false, not, cond, _&&_}
 use Prim.Native.Nat.{ℕ, zero, suc, _+_, _*_, _≤_, _<_}
 use native.Mathlib.Omega.{arith}
 use lib.Dec.{T, ltb, leb, eqb, ltb→lt, nltb→le, leb→le, nleb→lt, eqb→eq, eqb-refl}
@@ -67,9 +67,49 @@ same? a b = go (eqb a b) (λ t. eqb→eq a b t) (λ t. neq a b t)
     go false f g = ne (g tt)
 
 -- two functions changed at one place
-pub put-both : {A B : Type 0} (P : ℕ → A → B → Type 0) (f : ℕ → A) (g : ℕ → B) (k : ℕ) (v : A) (u : B) (n : ℕ) → (n ≡ k → P n v u) → (n ≢ k → P n (f n) (g n)) → P n (put f k v n) (put g k u n)
+pub put-both : {A B : Type 0} (P : ℕ → A → B → Type 0) (f : ℕ → A) (g : ℕ → B) (k : ℕ) (v : A) (u : B) (n : ℕ) → (n ≡ k → P n v u) →
+    (n ≢ k → P n (f n) (g n)) → P n (put f k v n) (put g k u n)
 put-both {A} {B} P f g k v u n p q = go (same? n k)
   where
     go : Same n k → P n (put f k v n) (put g k u n)
-    go (eq e) = put-all (λ (m : ℕ) (x : A). P n x (put g k u n)) f k v n (λ z. put-all (λ (m : ℕ) (y : B). P n v y) g k u n p (λ w. absurd (w e))) (λ z. absurd (z e))
-    go (ne e) = put-all (λ (m : ℕ) (x : A). P n x (put g k u n)) f k v n (λ z. absurd (e z)) (λ z. put-all (λ (m : ℕ) (y : B). P n (f n) y) g k u n (λ w. absurd (e w)) q)
+    go (eq e) = put-all (λ (m : ℕ) (x : A). P n x (put g k u n)) f k v n (λ z. put-all (λ (m : ℕ) (y : B). P n v y) g k u n p (λ w. absurd (w e)))
+        (λ z. absurd (z e))
+    go (ne e) = put-all (λ (m : ℕ) (x : A). P n x (put g k u n)) f k v n (λ z. absurd (e z))
+        (λ z. put-all (λ (m : ℕ) (y : B). P n (f n) y) g k u n (λ w. absurd (e w)) q)
+
+-- ---- tests and what they say
+
+pub lt-ltb : (a b : ℕ) → a < b → T (ltb a b)
+lt-ltb a b p = at (ltb a b) refl
+  where
+    at : (c : Bool) → ltb a b ≡ c → T c
+    at true e = tt
+    at false e = absurd (omega (arith, nltb→le a b (subst (λ (c : Bool). T (not c)) (sym e) tt)))
+
+pub le-leb : (a b : ℕ) → a ≤ b → T (leb a b)
+le-leb a b p = at (leb a b) refl
+  where
+    at : (c : Bool) → leb a b ≡ c → T c
+    at true e = tt
+    at false e = absurd (omega (arith, nleb→lt a b (subst (λ (c : Bool). T (not c)) (sym e) tt)))
+
+pub ne-eqb : (a b : ℕ) → a ≢ b → eqb a b ≡ false
+ne-eqb a b d = at (eqb a b) refl
+  where
+    at : (c : Bool) → eqb a b ≡ c → c ≡ false
+    at true e = absurd (d (eqb→eq a b (subst T (sym e) tt)))
+    at false e = refl
+
+pub and-both : (a b : Bool) → T a → T b → T (a && b)
+and-both true true p q = tt
+and-both true false p q = q
+and-both false b p q = p
+
+pub and-parts : (a b : Bool) → T (a && b) → T a × T b
+and-parts true true p = (tt, tt)
+and-parts true false p = absurd p
+and-parts false b p = absurd p
+
+pub and-false : (a : Bool) → (a && false) ≡ false
+and-false true = refl
+and-false false = refl

@@ -11,7 +11,10 @@ use Rattle.history.specs.Notes.{Deed, Note}
 use Rattle.history.specs.Notes as Notes
 use Rattle.history.specs.Ledger.{ledger}
 use Rattle.history.specs.Statements.{Noted, Executed}
-use Rattle.history.specs.Machine.{Item, Memory, Operation, register, v-read, v-cas, take-snapshot, read-snapshot, total, Then, then-39, then-43, then-48, then-52, then-34, then-total-34, Phase, line-37, line-39, line-41, line-43, line-45, line-46, line-48, line-50, line-51, line-52, line-5, line-6, line-32, line-34, total-32, total-34, closing, line-20, line-21, line-22, Place, observes, Fate, Worker, idle, busy, Catalogue}
+use Rattle.history.specs.Machine.{Item, Memory, Operation, register, v-read, v-cas, take-snapshot, read-snapshot, total, Then, then-39,
+    then-43, then-48, then-52, then-34, then-total-34, Phase, line-37, line-39, line-41, line-43, line-45, line-46, line-48, line-50, line-51,
+    line-52, line-5, line-6, line-32, line-34, total-32, total-34, closing, line-20, line-21, line-22, Place, observes, Fate, Worker, idle, busy,
+    Catalogue}
 use Rattle.history.specs.Facts.{Fetched, Read, ItemFacts, MemoryFacts, LaterItem, Later}
 use Rattle.history.specs.Later.{fetched-later, read-later}
 
@@ -137,8 +140,10 @@ pub record Stamping (it : Item) (run : List Note) (i j : ℕ) : Type 0 where
   pub own-next : (line : ℕ) (d : Deed) (t : ℕ) → Executed run o line d t → it .effect-at j < t → it .stamped-at j ≤ t
 
 pub record MemoryTraced (m : Memory) (run : List Note) : Type 0 where
-  pub published : (i j : ℕ) → suc j < m .item i .versions → Executed run (m .item i .author (suc j)) 46 (Notes.publishes i (m .item i .value (suc j))) (m .item i .published-at (suc j))
-  pub publishes-only : (o i v p : ℕ) → Executed run o 46 (Notes.publishes i v) p → (j : ℕ) × (suc j < m .item i .versions) × (p ≡ m .item i .published-at (suc j))
+  pub published : (i j : ℕ) → suc j < m .item i .versions → Executed run (m .item i .author (suc j)) 46 (Notes.publishes i (m .item i .value (suc j)))
+      (m .item i .published-at (suc j))
+  pub publishes-only : (o i v p : ℕ) → Executed run o 46 (Notes.publishes i v) p → (j : ℕ) × (suc j < m .item i .versions)
+      × (p ≡ m .item i .published-at (suc j))
   pub stamped : (i j : ℕ) → suc j < m .item i .valid → Stamping (m .item i) run i (suc j)
   pub stamps-only : (o i v s : ℕ) → Executed run o 22 (Notes.stamps i v) s → (j : ℕ) × (suc j < m .item i .valid) × (s ≡ m .item i .stamped-at (suc j))
   pub left : (h : ℕ) → h < m .camera .counter → (o : ℕ) × Executed run o 6 (Notes.moves h) (m .camera .left-at h)
@@ -154,7 +159,7 @@ pub record Traced (s : Catalogue) (run : List Note) : Type 0 where
 
 -- ---- later
 
-module _ {t : ℕ} {m m' : Memory} (L : Later t m m') (I : MemoryFacts t m) (run : List Note) (x : Note) where
+module _ {t : ℕ} {m m' : Memory} (L : Later t m m') (known : MemoryFacts t m) (run : List Note) (x : Note) where
   fetched-more : (o line i j f : ℕ) → f < t → FetchedBy (m .item i) run o line i j f → FetchedBy (m' .item i) (x ∷ run) o line i j f
   fetched-more o line i j f b e =
       record {
@@ -211,17 +216,21 @@ module _ {t : ℕ} {m m' : Memory} (L : Later t m m') (I : MemoryFacts t m) (run
 
     head-traced-later : (o line i : ℕ) (p : Place) → HeadTraced m run o line i p → HeadTraced m' (x ∷ run) o line i p
     head-traced-later o line i p e =
-        record { τ = e .τ; j = e .j; x = e .x; f = e .f; is = e .is; fetched = fetch-later o line i (e .j) (e .f) (e .fetched); good = omega (arith, e .good, L .item i .more-valid);
+        record { τ = e .τ; j = e .j; x = e .x; f = e .f; is = e .is; fetched = fetch-later o line i (e .j) (e .f) (e .fetched);
+            good = omega (arith, e .good, L .item i .more-valid);
           at = e .at ∙ ap (λ (v : ℕ). max (e .f) v) (sym (L .item i .stamped-at (e .j) (e .good))) }
 
     cas-traced-later : (o i : ℕ) (l : List ℕ) (p : Place) → CasTraced m run o i l p → CasTraced m' (x ∷ run) o i l p
     cas-traced-later o i l p (ends-43 q e) = ends-43 q (head-traced-later o 41 i p e)
-    cas-traced-later o i l p (ends-48 q j g e) = ends-48 q j (omega (arith, L .item i .more-valid)) (L .item i .author (suc j) (omega (arith, I .item i .valid-published)) ∙ e)
+    cas-traced-later o i l p (ends-48 q j g e) = ends-48 q j (omega (arith, L .item i .more-valid))
+        (L .item i .author (suc j) (omega (arith, known .item i .valid-published)) ∙ e)
     cas-traced-later o i l p (ends-52 q e) =
-        ends-52 q (record { τ = e .τ; g = e .g; x = e .x; is = e .is; lost = lost-later o i (e .g) (e .lost); good = omega (arith, e .good, L .item i .more-valid);
+        ends-52 q (record { τ = e .τ; g = e .g; x = e .x; is = e .is; lost = lost-later o i (e .g) (e .lost);
+            good = omega (arith, e .good, L .item i .more-valid);
           at = e .at ∙ sym (L .item i .effect-at (suc (e .g)) (e .good)) })
 
-    pub end-later : (o : ℕ) (op : Operation) (l : List ℕ) (p : Place) → (o < t) → ((τ j y : ℕ) → p ≡ observes τ j y → τ < t) → EndTraced m run o op l p → EndTraced m' (x ∷ run) o op l p
+    pub end-later : (o : ℕ) (op : Operation) (l : List ℕ) (p : Place) → (o < t) → ((τ j y : ℕ) → p ≡ observes τ j y → τ < t) → EndTraced m run o op l p →
+        EndTraced m' (x ∷ run) o op l p
     unfolding read-later
     end-later o (register i v z) l p a b e = tt
     end-later o (v-read i) l p a b e = head-traced-later o 37 i p e
@@ -229,7 +238,7 @@ module _ {t : ℕ} {m m' : Memory} (L : Later t m m') (I : MemoryFacts t m) (run
     end-later o take-snapshot l p a b e = tt
     end-later o (read-snapshot i h) l p a b e =
         record { τ = e .τ; j = e .j; x = e .x; is = e .is;
-          read = read-later L (λ i. I .item i .valid-published) a (b (e .τ) (e .j) (e .x) (e .is)) (omega arith) (e .read);
+          read = read-later L (λ i. known .item i .valid-published) a (b (e .τ) (e .j) (e .x) (e .is)) (omega arith) (e .read);
           fetched = fetch-later o 32 i (e .read .top) (e .read .f) (e .fetched);
-          value = e .value ∙ sym (L .item i .value (e .j) (omega (arith, e .read .sees .have, I .item i .valid-published))) }
+          value = e .value ∙ sym (L .item i .value (e .j) (omega (arith, e .read .sees .have, known .item i .valid-published))) }
     end-later o (total q h) l p a b e = tt

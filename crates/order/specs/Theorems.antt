@@ -26,13 +26,15 @@ use Rattle.reached.specs.Whole.{Limits-fit}
 use Rattle.reached.specs.Noted.{notes-agree}
 use Rattle.reached.specs.Never.{damaged-code, never-damaged}
 
-module _ (ws : List ℕ) (p m n q c : ℕ) (made : outcome ws (Call.make p m n q c) .answer .code ≡ 2) (cs : List Call) (run : Run (start ws p m n q c made) cs) where
+module _ (ws : List ℕ) (p m n q c : ℕ) (made : outcome ws (Call.make p m n q c) .answer .code ≡ 2) (cs : List Call)
+    (run : Run (start ws p m n q c made) cs) where
   -- the notes of the run
   abbrev pub told : List Note
   told = notes (start ws p m n q c made) cs
 
   -- no call answers 2
-  pub never-2 : (x : Call) → Run-call (words-after (start ws p m n q c made) cs) x → outcome (words-after (start ws p m n q c made) cs) x .answer .code ≢ damaged-code
+  pub never-2 : (x : Call) → Run-call (words-after (start ws p m n q c made) cs) x →
+      outcome (words-after (start ws p m n q c made) cs) x .answer .code ≢ damaged-code
   never-2 = never-damaged ws p m n q c made cs run
 
   -- demand 2: one order
@@ -63,16 +65,19 @@ module _ (ws : List ℕ) (p m n q c : ℕ) (made : outcome ws (Call.make p m n q
   every-end = subst Progress (sym (notes-agree ws p m n q c made cs run)) (progress (limits-of p m n q c) (sizes .items-in .1) (sizes .nodes-in .1) cs)
 
   -- a total never takes more than 5,121 steps
-  pub total-within : (o q h : ℕ) → ledger told .fate o .operation ≡ total q h → ledger told .fate o .done ≡ true → length (ledger told .fate o .lines) ≤ 5121
+  pub total-within : (o q h : ℕ) → ledger told .fate o .operation ≡ total q h → ledger told .fate o .done ≡ true →
+      length (ledger told .fate o .lines) ≤ 5121
   total-within =
-      subst (λ (l : List Note). (o q h : ℕ) → ledger l .fate o .operation ≡ total q h → ledger l .fate o .done ≡ true → length (ledger l .fate o .lines) ≤ 5121)
+      subst (λ (l : List Note). (o q h : ℕ) → ledger l .fate o .operation ≡ total q h → ledger l .fate o .done ≡ true →
+          length (ledger l .fate o .lines) ≤ 5121)
         (sym (notes-agree ws p m n q c made cs run)) (total-most (limits-of p m n q c) (sizes .items-in .1) (sizes .nodes-in .1) cs)
 
   first : List Note → Note
   first [] = refused
   first (x ∷ l) = x
 
-  step-same : (w : ℕ) → Run-call (words-after (start ws p m n q c made) cs) (Call.step w) → note (words-after (start ws p m n q c made) cs) (Call.step w) ≡ machine-note (after-calls (limits-of p m n q c) cs) (Call.step w)
+  step-same : (w : ℕ) → Run-call (words-after (start ws p m n q c made) cs) (Call.step w) →
+      note (words-after (start ws p m n q c made) cs) (Call.step w) ≡ machine-note (after-calls (limits-of p m n q c) cs) (Call.step w)
   unfolding notes machine-notes first
   step-same w t = ap first (notes-agree ws p m n q c made (Call.step w ∷ cs) (run, t))
 
@@ -85,7 +90,8 @@ module _ (ws : List ℕ) (p m n q c : ℕ) (made : outcome ws (Call.make p m n q
       (x .0, x .1, x .2, step-same w t ∙ x .3)
 
   -- the answer of a step carries the number of lines executed, that line included
-  pub every-step : (w line : ℕ) (d : Deed) (e : Ending) → Run-call (words-after (start ws p m n q c made) cs) (Call.step w) → note (words-after (start ws p m n q c made) cs) (Call.step w) ≡ stepped w line d e →
+  pub every-step : (w line : ℕ) (d : Deed) (e : Ending) → Run-call (words-after (start ws p m n q c made) cs) (Call.step w) →
+      note (words-after (start ws p m n q c made) cs) (Call.step w) ≡ stepped w line d e →
     outcome (words-after (start ws p m n q c made) cs) (Call.step w) .answer .steps ≡ length (line ∷ ledger told .lines w)
   every-step w line d e t x =
       ap (λ (a : Answer). a .steps) (answers-agree ws p m n q c made cs run (Call.step w) t)

@@ -2,14 +2,13 @@
 use Prim.Native.Nat.{ℕ, _+_, _<_}
 use mathlib.Core.Bool.{Bool, true, false, cond}
 use mathlib.Core.Path.{_≡_, refl, sym, _∙_, subst}
-use native.Mathlib.Omega.{arith}
 use lib.Dec.{eqb}
 use borrow.Author.Tests.{eq-eqb}
 use Rattle.definitions.specs.Cells.{phase, steps, item, old, new, handle, project, noted, node, new-node, seen, cleared}
 use Rattle.definitions.specs.Answers as outcome
 use Rattle.definitions.specs.Damage.{sum}
 use Rattle.definitions.specs.Lines as code
-use Rattle.cells.specs.Update.{Proper}
+use Rattle.cells.specs.Update.{Proper, record-proper}
 use Rattle.history.specs.Machine.{Item, Then, then-39, then-43, then-48, then-52, then-34, then-total-34, helped-item}
 use Rattle.history.specs.Machine.{after as phase-after}
 use Rattle.reached.specs.Parts.{Local}
@@ -19,9 +18,7 @@ pub self : (w : ℕ) → eqb w w ≡ true
 self w = eq-eqb w w refl
 
 pub cleared-proper : (p m n w : ℕ) → w < p → Proper p m n (cleared w)
-cleared-proper p m n w l =
-    (l, omega arith, (l, omega arith, (l, omega arith, (l, omega arith, (l, omega arith, (l, omega arith, (l, omega arith, (l, omega arith,
-    (l, omega arith, (l, omega arith, (l, omega arith, (l, omega arith, (l, omega arith, (l, omega arith, (l, omega arith, (l, omega arith, tt))))))))))))))))
+cleared-proper p m n w l = record-proper p m n w 0 0 0 0 0 0 0 l
 
 -- Two records with the same arguments.
 pub record Same-arguments (l later : Local) : Type 0 where

@@ -1,6 +1,6 @@
 -- Every run of the words, from an accepted make, is a run of the machine: the same answers, and words that are the image of its state.
 use Prim.Native.Nat.{ℕ, _<_, _≤_}
-use mathlib.Core.Bool.{Bool, true, false, _||_}
+use mathlib.Core.Bool.{true, false}
 use mathlib.Core.List.{List, [], _∷_}
 use mathlib.Core.Logic.{_≢_, inl}
 use mathlib.Core.Path.{_≡_, refl, ap, sym, _∙_, subst}
@@ -12,10 +12,11 @@ use Rattle.definitions.specs.Cells.{needed, Cell, Cells, workers, items-limit, 
 use Rattle.definitions.specs.Answers.{refusal}
 use Rattle.definitions.specs.Damage.{any-of, outside, sizes-outside, header-damaged}
 use Rattle.definitions.specs.Calls.{Call, Result, outcome, leaving}
-use Rattle.cells.specs.Stands.{Stands, place-below}
+use Rattle.cells.specs.Stands.{Stands, place-below, stands-as}
 use Rattle.cells.specs.Update.{after, after-size}
 use Rattle.cells.specs.Words.{Sized, Left, leaves, shows-own}
 use Rattle.cells.specs.Made.{comes-to, is-make, outcome-comes, Fresh, made, made-sized, made-fresh, Accepted, make-accepts, make-refuses}
+use Rattle.cells.specs.Spares.{none-at, first-false, second-false}
 use Rattle.history.specs.Notes.{words-after}
 use Rattle.history.specs.Machine.{Limits, Catalogue, fresh, tick, move, call, reply, after-calls}
 use Rattle.history.specs.StepCount.{steps-bound}
@@ -93,9 +94,6 @@ pub record Called (ws : List ℕ) (s : Catalogue) (x : Call) : Type 0 where
 
 -- Equal sizes.
 module _ (p m n p' m' n' : ℕ) (e : p' ≡ p) (g : m' ≡ m) (h : n' ≡ n) where
-  stands-same : (c : Cell) → Stands p' m' n' c → Stands p m n c
-  stands-same c l = subst (λ (x : ℕ). Stands x m n c) e (subst (λ (x : ℕ). Stands p' x n c) g (subst (λ (x : ℕ). Stands p' m' x c) h l))
-
   sized-same : (ws : List ℕ) → Sized p m n ws → Sized p' m' n' ws
   sized-same ws z = record { workers-are = z .workers-are ∙ sym e; items-are = z .items-are ∙ sym g; nodes-are = z .nodes-are ∙ sym h;
       enough = omega (arith, z .enough) }
@@ -125,7 +123,7 @@ other-call ws s U F x t e =
     nodes-same = sym (C .image .header .nodes-are) ∙ size nodes-limit (omega arith) ∙ U .image .header .nodes-are
     agrees : Agree (call s x .memory .limits) (after (cells-of ws) (comes-to (cells-of ws) x .writes))
         (cells-of (leaving ws (comes-to (cells-of ws) x) .words))
-    agrees c h = L .shows c (stands-same _ _ _ _ _ _ workers-same items-same nodes-same c h)
+    agrees c h = L .shows c (stands-as workers-same items-same nodes-same c h)
     later : Words-image (leaving ws (comes-to (cells-of ws) x) .words) (call s x)
     later = record {
       sized = sized-same _ _ _ _ _ _ workers-same items-same nodes-same (leaving ws (comes-to (cells-of ws) x) .words) (L .sized);
@@ -176,29 +174,16 @@ abbrev pub limits-of : (p m n q c : ℕ) → Limits
 limits-of p m n q c = record { workers = p; items = m; nodes = n; projects = q; counter = c }
 
 -- The ranges that make tests.
-first-false : (a b : Bool) → a || b ≡ false → a ≡ false
-first-false true b e = absurd (let z : _≡_ {A = ℕ} 0 1 = cc in omega arith)
-first-false false b e = refl
-second-false : (a b : Bool) → a || b ≡ false → b ≡ false
-second-false true b e = absurd (let z : _≡_ {A = ℕ} 0 1 = cc in omega arith)
-second-false false b e = e
-
 in-range : (low high x : ℕ) → outside low high x ≡ false → (low ≤ x) × (x ≤ high)
 in-range low high x e = (ltb-false x low (first-false (ltb x low) (ltb high x) e), ltb-false high x (second-false (ltb x low) (ltb high x) e))
 
 limits-fit : (p m n q c : ℕ) → any-of (sizes-outside p m n q c) ≡ false → Limits-fit (limits-of p m n q c)
 limits-fit p m n q c e = record {
-  workers-in = in-range 1 64 p (first-false _ (outside 1 256 m) e₂); items-in = in-range 1 256 m (second-false (outside 1 64 p) _ e₂);
-      nodes-in = in-range 1 4096 n (second-false (outside 1 64 p || outside 1 256 m) _ e₃);
-  projects-in = in-range 1 256 q (second-false ((outside 1 64 p || outside 1 256 m) || outside 1 4096 n) _ e₄);
-      counter-in = in-range 1 4294967294 c (second-false (((outside 1 64 p || outside 1 256 m) || outside 1 4096 n) || outside 1 256 q) _ e) }
-  where
-    e₄ : ((outside 1 64 p || outside 1 256 m) || outside 1 4096 n) || outside 1 256 q ≡ false
-    e₄ = first-false _ (outside 1 4294967294 c) e
-    e₃ : (outside 1 64 p || outside 1 256 m) || outside 1 4096 n ≡ false
-    e₃ = first-false _ (outside 1 256 q) e₄
-    e₂ : outside 1 64 p || outside 1 256 m ≡ false
-    e₂ = first-false _ (outside 1 4096 n) e₃
+  workers-in = in-range 1 64 p (none-at (sizes-outside p m n q c) 0 e);
+  items-in = in-range 1 256 m (none-at (sizes-outside p m n q c) 1 e);
+  nodes-in = in-range 1 4096 n (none-at (sizes-outside p m n q c) 2 e);
+  projects-in = in-range 1 256 q (none-at (sizes-outside p m n q c) 3 e);
+  counter-in = in-range 1 4294967294 c (none-at (sizes-outside p m n q c) 4 e) }
 
 -- What make leaves is the image of the fresh machine.
 fresh-image : (p m n q c : ℕ) (f : Cells) → Limits-fit (limits-of p m n q c) → Fresh p m n q c f → Catalogue-image f (fresh (limits-of p m n q c))

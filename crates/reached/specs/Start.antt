@@ -14,7 +14,8 @@ use Rattle.definitions.specs.Phases.{row-of, v-read-start, v-cas-start, take-sn
 use Rattle.definitions.specs.Damage.{worker-damaged, item-damaged, bad-value, bad-handle, bad-item}
 use Rattle.definitions.specs.Calls as code
 use Rattle.definitions.specs.Calls.{Call}
-use Rattle.cells.specs.Update.{after, Proper}
+use Rattle.cells.specs.Update.{after, Proper, record-proper}
+use Rattle.cells.specs.Spares.{first-false, second-false}
 use Rattle.history.specs.Tools.{put, put-all, put-same, put-other, by-eq, Same, eq, ne, same?}
 use Rattle.history.specs.Machine.{Operation, v-read, v-cas, take-snapshot, read-snapshot, total, total-32, closing, total-at, first-phase, Worker, idle, busy, is-idle, Catalogue, tick, Move, refused, begun, starting, move, call, reply}
 use Rattle.reached.specs.Parts.{Local, shared-of, local-of}
@@ -127,13 +128,6 @@ module _ (f : Cells) (s : Catalogue) (Z : Catalogue-image f s) (F : Few-steps (s
   started p i o n h q k = record { phase = p; steps = 0; item = i; old = o; new = n; handle = h; project = q; noted = k; node = 0; new-node = 0; seen = 0;
       sum = 0 }
 
-  record-proper : (w p i o n h q k : ℕ) → w < s .memory .limits .workers
-      → Proper (s .memory .limits .workers) (s .memory .limits .items) (s .memory .limits .nodes) (record-of w p i o n h q k)
-  record-proper w p i o n h q k l =
-      (l, omega arith, (l, omega arith, (l, omega arith, (l, omega arith, (l, omega arith, (l, omega arith, (l, omega arith, (l, omega arith,
-      (l, omega arith, (l, omega arith, (l, omega arith,
-          (l, omega arith, (l, omega arith, (l, omega arith, (l, omega arith, (l, omega arith, tt))))))))))))))))
-
   begins : (w : ℕ) (op : Operation) (p i o n h q k : ℕ) → w < s .memory .limits .workers → s .worker w ≡ idle
       → Known (s .memory) (first-phase (s .memory) op) → Holds (Z .own) (shared-of f) (s .memory .item) w (first-phase (s .memory) op)
       → Busy-image (s .memory .item) (started p i o n h q k) 0 (first-phase (s .memory) op)
@@ -159,7 +153,7 @@ module _ (f : Cells) (s : Catalogue) (Z : Catalogue-image f s) (F : Few-steps (s
       new : Worker
       new = busy (s .now) [] (first-phase (s .memory) op)
       P : Proper (s .memory .limits .workers) (s .memory .limits .items) (s .memory .limits .nodes) (record-of w p i o n h q k)
-      P = record-proper w p i o n h q k l
+      P = record-proper (s .memory .limits .workers) (s .memory .limits .items) (s .memory .limits .nodes) w p i o n h q k l
       holding-at : (y v : ℕ) → Z .own y ≡ held v → Same v w → Worker-holding (put (s .worker) w new v) y
       holding-at y v g (eq d) = absurd (subst (λ (u : Worker). Worker-holding u y) (ap (s .worker) d ∙ e) (Z .held-home y v g .1))
       holding-at y v g (ne d) = subst (λ (u : Worker). Worker-holding u y) (sym (put-other (s .worker) w new v d)) (Z .held-home y v g .1)
@@ -177,12 +171,8 @@ module _ (f : Cells) (s : Catalogue) (Z : Catalogue-image f s) (F : Few-steps (s
           subst (λ (u : Worker). Worker-image (s .memory .item) (local-of (after f (record-of w p i o n h q k)) v) u) (sym (put-other (s .worker) w new v d))
           (subst (λ (x : Local). Worker-image (s .memory .item) x (s .worker v)) (sym (others v (λ c. d (sym c)))) (Z .worker-is v b))
 
-  neither-holds : (a b : Bool) → a || b ≡ false → (a ≡ false) × (b ≡ false)
-  neither-holds true b e = absurd (let z : _≡_ {A = ℕ} 0 1 = cc in omega arith)
-  neither-holds false b e = (refl, e)
-
   both-below : (n x y : ℕ) → leb n x || leb n y ≡ false → (x < n) × (y < n)
-  both-below n x y e = let z : (leb n x ≡ false) × (leb n y ≡ false) = neither-holds (leb n x) (leb n y) e in (leb-false n x (z .0), leb-false n y (z .1))
+  both-below n x y e = (leb-false n x (first-false (leb n x) (leb n y) e), leb-false n y (second-false (leb n x) (leb n y) e))
 
   pub v-read-image : (w i : ℕ) → Call-image f s (Call.v-read w i) (code.starting-v-read f w i)
   v-read-image w i = moves f s (Call.v-read w i) (code.starting-v-read f w i) both-sides

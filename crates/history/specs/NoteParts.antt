@@ -1,0 +1,54 @@
+-- The parts of notes and deeds, to tell them apart.
+use Prim.Native.Nat.{ℕ}
+use Rattle.history.specs.Notes.{Deed, Ending, Note}
+use Rattle.history.specs.Notes as Notes
+
+abbrev pub deed-tag : Deed → ℕ
+deed-tag (Notes.fetches i b) = 1
+deed-tag (Notes.publishes i v) = 2
+deed-tag (Notes.stamps i v) = 3
+deed-tag (Notes.moves h) = 4
+deed-tag Notes.nothing = 0
+
+abbrev pub deed-item : Deed → ℕ
+deed-item (Notes.fetches i b) = i
+deed-item (Notes.publishes i v) = i
+deed-item (Notes.stamps i v) = i
+deed-item (Notes.moves h) = h
+deed-item Notes.nothing = 0
+
+abbrev pub ending-tag : Ending → ℕ
+ending-tag Notes.goes-on = 0
+ending-tag (Notes.answers x) = 1
+ending-tag (Notes.ends-with n) = 2
+
+abbrev pub note-tag : Note → ℕ
+note-tag Notes.refused = 0
+note-tag (Notes.registered i v s) = 1
+note-tag (Notes.started w op) = 2
+note-tag (Notes.stepped w k d e) = 3
+
+abbrev pub note-worker : Note → ℕ
+note-worker Notes.refused = 0
+note-worker (Notes.registered i v s) = 0
+note-worker (Notes.started w op) = 0
+note-worker (Notes.stepped w k d e) = w
+
+abbrev pub note-line : Note → ℕ
+note-line Notes.refused = 0
+note-line (Notes.registered i v s) = 0
+note-line (Notes.started w op) = 0
+note-line (Notes.stepped w k d e) = k
+
+abbrev pub note-deed : Note → Deed
+note-deed Notes.refused = Notes.nothing
+note-deed (Notes.registered i v s) = Notes.nothing
+note-deed (Notes.started w op) = Notes.nothing
+note-deed (Notes.stepped w k d e) = d
+
+-- 3 where no line was executed
+abbrev pub note-ending : Note → ℕ
+note-ending Notes.refused = 3
+note-ending (Notes.registered i v s) = 3
+note-ending (Notes.started w op) = 3
+note-ending (Notes.stepped w k d e) = ending-tag e
