@@ -12,15 +12,21 @@ cc=${CC:-gcc}
 target/bin/schedule < "$work/in" > "$work/out"
 "$work/schedule_c" < "$work/in" | cmp - "$work/out" || { echo "bench: the two programs print different text"; exit 1; }
 python3 - "$work" "$rounds" <<'P'
-import subprocess, sys, time
+import resource, subprocess, sys, time
 work, rounds = sys.argv[1], int(sys.argv[2])
 programs = {"schedule": "target/bin/schedule", "C": work + "/schedule_c"}
-least = {name: 1e9 for name in programs}
+wall = {name: 1e9 for name in programs}
+busy = {name: 1e9 for name in programs}
+def spent():
+    use = resource.getrusage(resource.RUSAGE_CHILDREN)
+    return use.ru_utime + use.ru_stime
 for _ in range(rounds):
     for name, path in programs.items():
         with open(work + "/in", "rb") as text, open("/dev/null", "wb") as nowhere:
-            start = time.perf_counter()
+            start, before = time.perf_counter(), spent()
             subprocess.run([path], stdin=text, stdout=nowhere, check=True)
-            least[name] = min(least[name], time.perf_counter() - start)
-print("bench: schedule %.3f s, C %.3f s, ratio %.2f" % (least["schedule"], least["C"], least["schedule"] / least["C"]))
+            wall[name] = min(wall[name], time.perf_counter() - start)
+            busy[name] = min(busy[name], spent() - before)
+for what, least in (("processor time", busy), ("elapsed time", wall)):
+    print("bench: %s: schedule %.3f s, C %.3f s, ratio %.2f" % (what, least["schedule"], least["C"], least["schedule"] / least["C"]))
 P

@@ -1,12 +1,12 @@
 -- The four changes of the memory keep its invariant, and lead to a later memory.
-use mathlib.Core.Path.{_≡_, refl, ap, sym, _∙_, subst}
-use mathlib.Core.Logic.{_≢_, _⊎_, inl, inr}
-use mathlib.Core.Bool.{Bool, true, false, cond, not}
-use Prim.Native.Nat.{ℕ, zero, suc, pred, _+_, _*_, _≤_, _<_, max}
+use mathlib.Core.Path.{_≡_, refl, sym, _∙_, subst}
+use mathlib.Core.Logic.{_≢_}
+use mathlib.Core.Bool.{Bool, false}
+use Prim.Native.Nat.{ℕ, suc, _≤_, _<_}
 use native.Mathlib.Omega.{arith}
-use Rattle.history.specs.Tools.{put, put-all, put-same, put-other, Split, split, Same, eq, ne, same?}
-use Rattle.history.specs.Machine.{Item, Camera, Memory, Operation, v-cas, published, stamped, newborn, with-item, with-pool, counted-up,
-    Effect, nothing, counts, publishes, stamps, takes-node, gives-back, memory-after, one-taken, one-returned}
+use Rattle.history.specs.Tools.{put, put-all, put-other}
+use Rattle.history.specs.Machine.{Item, Camera, Memory, Operation, v-cas, published, stamped, newborn, with-item, counted-up, Effect, nothing,
+    counts, publishes, stamps, takes-node, gives-back, memory-after}
 use Rattle.history.specs.Facts.{CounterWas, ItemFacts, MemoryFacts, LaterCamera, LaterItem, Later}
 use Rattle.history.specs.Later.{counter-later}
 

@@ -9,7 +9,7 @@ use lib.ListN.{length, getD}
 use Rattle.history.specs.Definition1.{Operation, register, v-read, v-cas, take-snapshot, read-snapshot, total}
 use Rattle.history.specs.Notes.{Deed, Ending, goes-on, answers, ends-with, Note, refused, registered, started, stepped}
 use Rattle.history.specs.Ledger.{ledger, found-TBD}
-use Rattle.history.specs.Statements.{fate-of, Finished, last-line, Noted}
+use Rattle.history.specs.Statements.{fate-of, Finished, Noted}
 
 -- a help takes one step where line 20 found a valid stamp, and three where it found TBD
 abbrev pub help-steps : Bool → ℕ

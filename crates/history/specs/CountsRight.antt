@@ -1,25 +1,24 @@
 -- Numbers of steps for the notes of every run of the machine of versions.
 use mathlib.Core.Path.{_≡_, refl, ap, ap₂, sym, _∙_, subst}
-use mathlib.Core.Logic.{_≢_, _⊎_, inl, inr}
-use mathlib.Core.Bool.{Bool, true, false, cond}
-use mathlib.Core.List.{List, [], _∷_, _++_}
-use Prim.Native.Nat.{ℕ, zero, suc, _+_, _≤_, _<_}
+use mathlib.Core.Logic.{_≢_, inl, inr}
+use mathlib.Core.Bool.{true}
+use mathlib.Core.List.{List, [], _∷_}
+use Prim.Native.Nat.{ℕ, suc, _+_, _≤_, _<_}
 use native.Mathlib.Omega.{arith}
 use lib.ListN.{length}
 use Rattle.definitions.specs.Calls.{Call}
 use Rattle.history.specs.Tools.{put-same}
-use Rattle.history.specs.Definition1.{Operation, register, v-read, v-cas, take-snapshot, read-snapshot, total}
+use Rattle.history.specs.Definition1.{Operation, v-read, v-cas, take-snapshot}
 use Rattle.history.specs.Notes.{Deed, Note}
 use Rattle.history.specs.Notes as Notes
-use Rattle.history.specs.Ledger.{Fate, ledger, helped, found-TBD}
-use Rattle.history.specs.Statements.{Noted}
+use Rattle.history.specs.Ledger.{Fate, ledger}
 use Rattle.history.specs.NoteParts.{note-tag, note-worker, note-line, ending-tag, note-ending}
-use Rattle.history.specs.Counts.{help-steps, CasSteps, StepCounts, most-steps, Progress}
+use Rattle.history.specs.Counts.{StepCounts, most-steps, Progress}
 use Rattle.history.specs.Machine.{Memory, Limits, Then, then-39, then-43, then-48, then-52, then-34, then-total-34, Phase, line-37, line-39,
     line-41, line-43, line-45, line-46, line-48, line-50, line-51, line-52, line-5, line-6, line-32, line-34, total-32, total-34, closing, line-20,
-    line-21, line-22, line-number, Comes, goes-on, ends-with, answers-change, answers, line, memory-after, Worker, idle, busy, Catalogue, settle,
-    affect, tick, call, after-calls}
-use Rattle.history.specs.PhaseFacts.{ThenFacts, Helping, Storing, Helped, PhaseFacts}
+    line-21, line-22, line-number, Comes, goes-on, ends-with, answers-change, answers, line, memory-after, Worker, busy, Catalogue, settle, affect,
+    tick, call, after-calls}
+use Rattle.history.specs.PhaseFacts.{ThenFacts, Helped, PhaseFacts}
 use Rattle.history.specs.RightAnswers.{then-operation, phase-operation, has-published, published-after, WholeLines, FateLines, ComesRight,
     LineRight}
 use Rattle.history.specs.EachLine.{every-line}

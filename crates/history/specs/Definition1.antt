@@ -1,7 +1,7 @@
 -- Definition 1 of the paper, for sequential histories: what an answer means. The sequential object knows values, sizes and answers,
 -- and no stamp, node or counter.
-use mathlib.Core.Path.{_≡_, refl}
-use mathlib.Core.Bool.{Bool, true, false, cond}
+use mathlib.Core.Path.{_≡_}
+use mathlib.Core.Bool.{cond}
 use mathlib.Core.List.{List, [], _∷_}
 use Prim.Native.Nat.{ℕ, zero, suc, _+_}
 use lib.Dec.{eqb}

@@ -1,31 +1,26 @@
 -- Each line of Algorithm 1, by a worker whose phase's facts hold: its change of the memory is allowed, and the next phase's facts hold, or the
 -- answer is right at its place, with the lines executed.
 use mathlib.Core.Path.{_≡_, refl, ap, sym, _∙_, subst}
-use mathlib.Core.Logic.{_≢_, _⊎_, inl, inr}
-use mathlib.Core.Bool.{Bool, true, false, cond, not}
+use mathlib.Core.Logic.{inl, inr}
+use mathlib.Core.Bool.{Bool, true, false, cond}
 use mathlib.Core.List.{List, [], _∷_, _++_}
-use Prim.Native.Nat.{ℕ, zero, suc, pred, _+_, _*_, _≤_, _<_, max}
+use Prim.Native.Nat.{ℕ, suc, pred, _+_, _≤_, _<_, max}
 use native.Mathlib.Omega.{arith}
-use lib.Dec.{T, ltb, leb, eqb}
-use lib.ListN.{replicate}
+use lib.Dec.{eqb}
 use Rattle.history.specs.Tools.{put-all, put-same, put-other, by-eq, by-lt, by-le, Split, split, Same, eq, ne, same?}
-use Rattle.history.specs.Machine.{Item, Camera, Memory, Operation, register, v-read, v-cas, take-snapshot, read-snapshot, total, Then, then-39,
-    then-43, then-48, then-52, then-34, then-total-34, Phase, line-37, line-39, line-41, line-43, line-45, line-46, line-48, line-50, line-51,
-    line-52, line-5, line-6, line-32, line-34, total-32, total-34, closing, line-20, line-21, line-22, after, total-at, helped-item, line-number,
-    Found, no-node, node, node-to-take, on-45, Effect, nothing, counts, publishes, stamps, takes-node, gives-back, Comes, goes-on, ends-with,
-    answers-change, answers, Next, only, head, read-at, line, memory-after, published, stamped}
-use Rattle.history.specs.Facts.{CounterWas, Sees, Sum, empty, skip, plus, Fetched, Mine, Lost, Born, Read, helped, read-lines, ItemFacts,
-    MemoryFacts, Later}
-use Rattle.history.specs.Later.{fetched-later}
-use Rattle.history.specs.Changes.{Allowed, MayPublish, MayStamp, effect-later}
-use Rattle.history.specs.PhaseFacts.{Held, Reading, Tried, Totals, TotalReading, Walked, Passing, TotalWalking, Wants, Lagging, Count,
-    ThenFacts, Helping, Storing, Helped, PhaseFacts, then-published, then-later, totals-later, reading-later, held-later, wants-later, phase-later}
-use Rattle.history.specs.RightAnswers.{then-operation, phase-operation, then-has-published, has-published, CasLines, to-43, to-48, to-52,
-    WholeLines, RefusedLines, no-node-left, counter-full, AtHead, AtLoss, AtLastStep, CasSees, differs, same, SnapshotRead, TotalRead, RightAnswer,
-    GoesOn, EndsWith, EndsChange, AnswersRight, ComesRight, Moving, LineRight}
+use Rattle.history.specs.Machine.{Item, Memory, Operation, v-read, v-cas, take-snapshot, total, Then, then-39, then-43, then-48, then-52,
+    then-34, then-total-34, Phase, line-37, line-39, line-41, line-43, line-45, line-46, line-48, line-50, line-51, line-52, line-5, line-6, line-32,
+    line-34, total-32, total-34, closing, line-20, line-21, line-22, after, total-at, helped-item, line-number, Found, no-node, node, node-to-take,
+    on-45, Effect, nothing, publishes, stamps, Comes, goes-on, answers, only, head, line, memory-after, published, stamped}
+use Rattle.history.specs.Facts.{Sees, Sum, skip, plus, Mine, Lost, Read, helped, MemoryFacts, Later}
+use Rattle.history.specs.Changes.{MayStamp, effect-later}
+use Rattle.history.specs.PhaseFacts.{Held, Totals, Walked, Passing, Lagging, Storing, Helped, PhaseFacts, then-published, then-later,
+    totals-later, reading-later, held-later, wants-later}
+use Rattle.history.specs.RightAnswers.{then-operation, phase-operation, then-has-published, has-published, to-43, to-48, to-52, WholeLines,
+    no-node-left, counter-full, AtHead, AtLastStep, differs, same, RightAnswer, GoesOn, AnswersRight, ComesRight, LineRight}
 
 -- a help of a total's read, with the lines of the items before it
-helped-onto : (tbd : Bool) (l : List ℕ) → helped tbd (32 ∷ l) ≡ helped tbd (32 ∷ []) ++ l
+pub helped-onto : (tbd : Bool) (l : List ℕ) → helped tbd (32 ∷ l) ≡ helped tbd (32 ∷ []) ++ l
 helped-onto true l = refl
 helped-onto false l = refl
 
@@ -177,7 +172,7 @@ module _ (t o : ℕ) (l : List ℕ) (m : Memory) (known : MemoryFacts t m) (ot :
             lines = ap (λ (l : List ℕ). 34 ∷ l) (z .is) }
 
   -- where it goes on to the older version
-  walks-on : (i h f j x : ℕ) → Walked t o (m .camera) (m .item i) h f j x → h < m .item i .stamp x →
+  pub walks-on : (i h f j x : ℕ) → Walked t o (m .camera) (m .item i) h f j x → h < m .item i .stamp x →
       Walked (suc t) o (m .camera) (m .item i) h f j (pred x) × (0 < x)
   walks-on i h f j x w p = at (same? x 0)
     where
@@ -190,7 +185,7 @@ module _ (t o : ℕ) (l : List ℕ) (m : Memory) (known : MemoryFacts t m) (ot :
           there y u v (eq z) = subst (λ (z : ℕ). h < m .item i .stamp z) (sym z) p
           there y u v (ne z) = w .above y (omega arith) v
 
-  passes-on : (x j : ℕ) (r : List ℕ) → 0 < x → Passing x j r → Passing (pred x) j (34 ∷ r)
+  pub passes-on : (x j : ℕ) (r : List ℕ) → 0 < x → Passing x j r → Passing (pred x) j (34 ∷ r)
   passes-on x j r p z = record { tbd = z .tbd; passed = suc (z .passed); count = omega (arith, z .count); is = ap (λ (l : List ℕ). 34 ∷ l) (z .is) }
 
   -- ---- a total goes on
@@ -204,7 +199,8 @@ module _ (t o : ℕ) (l : List ℕ) (m : Memory) (known : MemoryFacts t m) (ot :
 
   one-more : (q h k i u u' : ℕ) (r r' : List ℕ) → i < k → Totals (suc t) o m q h k i u r → Sum m q h o (suc t) (suc i) u' r' →
       Totals (suc t) o m q h k (suc i) u' r'
-  one-more q h k i u u' r r' p x s = record { gone = x .gone; when = x .when; at = p; registered = x .registered; have = x .have; covers = x .covers;
+  one-more q h k i u u' r r' p x s = record { gone = x .gone; when = x .when; at = p; registered = x .registered; have = x .have; noted = x .noted;
+      covers = x .covers;
       sum = s }
 
   -- ---- every line
@@ -364,5 +360,6 @@ module _ (t o : ℕ) (l : List ℕ) (m : Memory) (known : MemoryFacts t m) (ot :
       y = totals-later o stay ot known (z .totals)
   every-line (closing q h k u) x =
       quietly (closing q h k u) _ (record { early = refl; since = ot; till = omega arith; last = refl; lines = tt;
-        right = record { gone = x .gone; when = x .when; k = k; registered = x .registered; covers = x .covers; earlier = l;
+        right = record { gone = x .gone; when = x .when; k = k; registered = x .registered; have = x .have; noted = x .noted; covers = x .covers;
+            earlier = l;
             sum = totals-later o stay ot known x .sum; lines = refl } })

@@ -1,17 +1,17 @@
 -- Laws of the list of effects that hold of any notes: it is in time order, it has every birth, snapshot and stamp, and a value stays until the next
 -- effect.
 use mathlib.Core.Path.{_≡_, refl, ap, ap₂, sym, _∙_, subst}
-use mathlib.Core.Logic.{_⊎_, inl, inr}
+use mathlib.Core.Logic.{inl, inr}
 use mathlib.Core.Bool.{Bool, true, false, cond, not, _&&_}
 use mathlib.Core.List.{List, [], _∷_}
 use Prim.Native.Nat.{ℕ, _≤_, _<_}
 use native.Mathlib.Omega.{arith}
 use lib.Dec.{T, leb, leb→le, nleb→lt}
 use lib.ListN.{length}
-use Rattle.history.specs.Notes.{Deed, Ending, Note}
+use Rattle.history.specs.Notes.{Ending, Note}
 use Rattle.history.specs.Notes as Notes
-use Rattle.history.specs.Effects.{Effect, birth, change, snapshot, last-step, last-published, deed-effect, note-effect, insert, insert-all,
-    effects, on-item, new-value, value-at}
+use Rattle.history.specs.Effects.{Effect, birth, change, snapshot, last-step, last-published, deed-effect, note-effect, insert-all, effects,
+    on-item, new-value, value-at}
 use Rattle.history.specs.Statements.{Noted, Among}
 use Rattle.history.specs.EffectList.{Ordered, among-insert, insert-among, insert-ordered}
 

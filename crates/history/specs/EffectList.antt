@@ -1,20 +1,15 @@
 -- Laws of the list of effects: inserting by time keeps the order, loses nothing and adds one; the value at a time is that of the newest effect.
-use mathlib.Core.Path.{_≡_, refl, ap, ap₂, sym, _∙_, subst}
-use mathlib.Core.Logic.{_≢_, _⊎_, inl, inr}
-use mathlib.Core.Bool.{Bool, true, false, cond, not, _&&_}
+use mathlib.Core.Path.{_≡_, refl, sym, subst}
+use mathlib.Core.Logic.{_⊎_, inl, inr}
+use mathlib.Core.Bool.{Bool, cond, _&&_}
 use mathlib.Core.List.{List, [], _∷_}
-use Prim.Native.Nat.{ℕ, zero, suc, _+_, _≤_, _<_, min}
+use Prim.Native.Nat.{ℕ, _+_, _≤_, _<_}
 use native.Mathlib.Omega.{arith}
-use lib.Dec.{T, ltb, leb, eqb, leb→le}
+use lib.Dec.{T, ltb, leb, leb→le}
 use Rattle.history.specs.Tools.{by-lt, by-test, le-leb, and-both, and-parts}
-use Rattle.history.specs.Effects.{Effect, Happening, insert, on-item, new-value, value-at, count-if, birth-weight, sum-births}
+use Rattle.history.specs.Effects.{Effect, insert, on-item, new-value, value-at, count-if, birth-weight, sum-births}
 use Rattle.history.specs.Statements.{Among}
-use Rattle.history.specs.NodeCount.{sum-to}
-
--- the newest first
-abbrev pub Ordered : List Effect → Type 0
-Ordered [] = Unit {0}
-Ordered (x ∷ l) = ((y : Effect) → Among y l → y .time ≤ x .time) × Ordered l
+pub use Rattle.history.specs.Statements.{Ordered}
 
 pub among-insert : (x y : Effect) (l : List Effect) → Among y l → Among y (insert x l)
 unfolding insert

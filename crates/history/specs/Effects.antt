@@ -1,5 +1,5 @@
 -- The list of effects of a run: births, changes and snapshots, each with the time at which it takes effect, the newest first.
-use mathlib.Core.Bool.{Bool, true, false, cond, _&&_}
+use mathlib.Core.Bool.{Bool, false, cond, _&&_}
 use mathlib.Core.List.{List, [], _∷_}
 use Prim.Native.Nat.{ℕ, _+_}
 use lib.Dec.{ltb, leb, eqb}
@@ -117,3 +117,7 @@ sum-births g (x ∷ l) = birth-weight g x + sum-births g l
 -- the sum of the sizes of the items born up to τ whose project then is q
 abbrev pub total-at : List Effect → (q τ : ℕ) → ℕ
 total-at l q τ = sum-births (λ t i v s. cond (leb t τ && eqb (value-at l i τ) q) s 0) l
+
+-- how many items were born before o
+abbrev pub born-before : ℕ → List Effect → ℕ
+born-before o l = sum-births (λ t i v s. cond (ltb t o) 1 0) l

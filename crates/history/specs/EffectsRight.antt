@@ -1,14 +1,13 @@
 -- The list of effects holds one effect for each version with a valid stamp and one for each number that the counter left, and nothing else.
 use mathlib.Core.Path.{_≡_, refl, ap, ap₂, sym, _∙_, subst}
 use mathlib.Core.Logic.{_≢_, _⊎_, inl, inr}
-use mathlib.Core.Bool.{Bool, true, false, cond, not, _&&_}
-use mathlib.Core.List.{List, [], _∷_}
-use Prim.Native.Nat.{ℕ, zero, suc, pred, _+_, _≤_, _<_}
+use mathlib.Core.Bool.{Bool, false, cond, _&&_}
+use mathlib.Core.List.{List}
+use Prim.Native.Nat.{ℕ, zero, suc, _+_, _≤_, _<_}
 use native.Mathlib.Omega.{arith}
-use lib.Dec.{T, ltb, leb, eqb, eqb→eq}
+use lib.Dec.{ltb}
 use Rattle.history.specs.Tools.{Split, split, Same, eq, ne, same?, ne-eqb, and-false}
-use Rattle.history.specs.Effects.{Effect, Happening, birth, change, snapshot, insert, published-before, changed-between, count-if,
-    birth-weight, sum-births}
+use Rattle.history.specs.Effects.{Effect, Happening, birth, change, snapshot, insert, changed-between, count-if, birth-weight, sum-births}
 use Rattle.history.specs.Statements.{Among}
 use Rattle.history.specs.Machine.{Item, Camera, Memory}
 use Rattle.history.specs.Facts.{MemoryFacts, LaterItem, Later}

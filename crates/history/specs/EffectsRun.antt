@@ -1,24 +1,24 @@
 -- After every run, the list of effects of its notes is that of the machine.
 use mathlib.Core.Path.{_≡_, refl, ap, ap₂, sym, _∙_, subst}
-use mathlib.Core.Logic.{_≢_, _⊎_, inl, inr}
-use mathlib.Core.Bool.{Bool, true, false, cond, not}
+use mathlib.Core.Logic.{_≢_}
+use mathlib.Core.Bool.{Bool, false, cond}
 use mathlib.Core.List.{List, [], _∷_}
-use Prim.Native.Nat.{ℕ, zero, suc, pred, _+_, _≤_, _<_}
+use Prim.Native.Nat.{ℕ, zero, suc, pred, _≤_, _<_}
 use native.Mathlib.Omega.{arith}
-use lib.Dec.{T, ltb, leb, eqb}
+use lib.Dec.{T}
 use lib.ListN.{length}
 use Rattle.definitions.specs.Calls.{Call}
 use Rattle.history.specs.Tools.{put, put-all, put-same, put-other, by-eq, Split, split, Same, eq, ne, same?}
 use Rattle.history.specs.Notes.{Deed, Note}
 use Rattle.history.specs.Notes as Notes
 use Rattle.history.specs.Effects.{Effect, Happening, birth, change, snapshot, last-step, publishes-item, last-published, deed-effect,
-    note-effect, insert, insert-all, effects, count-if, sum-births}
+    note-effect, insert-all, effects, count-if, sum-births}
 use Rattle.history.specs.Machine.{Item, Memory, Limits, found, node-to-take, Operation, register, v-read, v-cas, take-snapshot, read-snapshot,
     total, Phase, total-at, line-number, nothing, counts, publishes, stamps, takes-node, gives-back, Comes, goes-on, ends-with, answers-change,
-    answers, Next, line, memory-after, published, stamped, newborn, Worker, idle, busy, Catalogue, settle, affect, tick, first-phase, begun,
-    registered, call, fresh, after-calls}
+    answers, line, memory-after, published, stamped, newborn, Worker, idle, busy, Catalogue, settle, affect, tick, first-phase, begun, registered,
+    call, fresh, after-calls}
 use Rattle.history.specs.Machine as Machine
-use Rattle.history.specs.Facts.{MemoryFacts, Later}
+use Rattle.history.specs.Facts.{Later}
 use Rattle.history.specs.Changes.{Allowed, effect-later}
 use Rattle.history.specs.RightAnswers.{phase-operation, has-published, LineRight}
 use Rattle.history.specs.EachLine.{every-line}
@@ -32,7 +32,7 @@ use Rattle.history.specs.TraceMemory.{Matches, matches}
 use Rattle.history.specs.NoteParts.{deed-tag}
 use Rattle.history.specs.TraceRun.{traced}
 use Rattle.history.specs.LastSteps.{PhaseLast, WorkerLast, ComesLast, StampLast, phase-last-as, stamp-last, line-last}
-use Rattle.history.specs.EffectsRight.{version-effect, snapshot-effect, MemoryEffects, more-items, same-effects, one-version, one-snapshot}
+use Rattle.history.specs.EffectsRight.{version-effect, MemoryEffects, more-items, same-effects, one-version, one-snapshot}
 
 pub record Effected (s : Catalogue) (run : List Note) : Type 0 where
   pub memory : MemoryEffects (s .memory) (effects run)

@@ -1,22 +1,22 @@
 -- Demand 3 for the notes of every run of the machine of versions: a readSnapshot answers the value when the counter left its handle, in exactly counted
 -- steps.
 use mathlib.Core.Path.{_≡_, refl, ap, ap₂, sym, _∙_, subst}
-use mathlib.Core.Logic.{_≢_, _⊎_, inl, inr}
-use mathlib.Core.Bool.{Bool, true, false, cond, not, _&&_, true≢false}
-use mathlib.Core.List.{List, [], _∷_}
+use mathlib.Core.Logic.{_⊎_, inl, inr}
+use mathlib.Core.Bool.{Bool, true, false, cond, _&&_}
+use mathlib.Core.List.{List}
 use Prim.Native.Nat.{ℕ, zero, suc, _+_, _≤_, _<_, min}
 use native.Mathlib.Omega.{arith}
-use lib.Dec.{T, ltb, leb, eqb, ltb→lt, nltb→le, eqb→eq, eqb-refl}
+use lib.Dec.{T, ltb, eqb, ltb→lt, eqb→eq, eqb-refl}
 use lib.ListN.{length}
 use Rattle.definitions.specs.Calls.{Call}
 use Rattle.history.specs.Tools.{Split, split, Same, eq, ne, same?, lt-ltb, and-both, and-parts}
 use Rattle.history.specs.Definition1.{Operation, read-snapshot}
 use Rattle.history.specs.Notes.{Note}
 use Rattle.history.specs.Ledger.{Fate, ledger, found-TBD}
-use Rattle.history.specs.Effects.{Effect, Happening, birth, change, snapshot, effects, on-item, new-value, value-at, changed-between, count-if}
-use Rattle.history.specs.Statements.{Among, ExactRead}
-use Rattle.history.specs.Machine.{Item, Memory, Limits, Place, observes, Catalogue, after-calls}
-use Rattle.history.specs.Facts.{Sees, Fetched, Read, read-lines, ItemFacts, MemoryFacts}
+use Rattle.history.specs.Effects.{Effect, effects, on-item, new-value, value-at, changed-between, count-if}
+use Rattle.history.specs.Statements.{ExactRead}
+use Rattle.history.specs.Machine.{Item, Limits, Place, Catalogue, after-calls}
+use Rattle.history.specs.Facts.{Sees, Read}
 use Rattle.history.specs.Places.{ObserverRight, PlaceRight, Invariant}
 use Rattle.history.specs.Run.{run-right}
 use Rattle.history.specs.OrderList.{effects-rise}
@@ -24,11 +24,11 @@ use Rattle.history.specs.NodeCount.{sum-to}
 use Rattle.history.specs.StepCount.{length-read, read-TBD}
 use Rattle.history.specs.MachineNotes.{machine-notes}
 use Rattle.history.specs.LedgerRight.{Agrees, agrees}
-use Rattle.history.specs.Trace.{FetchedBy, ReadTraced, EndTraced, Traced}
+use Rattle.history.specs.Trace.{ReadTraced, EndTraced, Traced}
 use Rattle.history.specs.TraceRun.{traced}
 use Rattle.history.specs.Instants.{published-rises}
 use Rattle.history.specs.EffectList.{value-is}
-use Rattle.history.specs.EffectsRight.{version-effect, snapshot-effect, IsEffect, of-version, of-counter, counted, MemoryEffects}
+use Rattle.history.specs.EffectsRight.{version-effect, IsEffect, of-version, of-counter, counted}
 use Rattle.history.specs.EffectsRun.{Effected, effected}
 
 -- ---- counting a window: ones from j + 1 to top, and zeros elsewhere

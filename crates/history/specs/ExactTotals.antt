@@ -1,23 +1,23 @@
 -- Totals for the notes of every run of the machine of versions: the sum over all items when the counter left the handle, and its lines item by item.
-use mathlib.Core.Path.{_≡_, refl, ap, ap₂, sym, _∙_, subst}
-use mathlib.Core.Logic.{_≢_, _⊎_, inl, inr}
-use mathlib.Core.Bool.{Bool, true, false, cond, not, _&&_, true≢false}
-use mathlib.Core.List.{List, [], _∷_, _++_}
-use Prim.Native.Nat.{ℕ, zero, suc, _+_, _≤_, _<_}
+use mathlib.Core.Path.{_≡_, refl, ap, sym, _∙_, subst}
+use mathlib.Core.Logic.{_≢_}
+use mathlib.Core.Bool.{Bool, true, false, cond, _&&_, true≢false}
+use mathlib.Core.List.{List, _++_}
+use Prim.Native.Nat.{ℕ, zero, suc, pred, _+_, _≤_, _<_}
 use native.Mathlib.Omega.{arith}
-use lib.Dec.{T, leb, eqb, leb→le, nleb→lt}
+use lib.Dec.{T, ltb, leb, eqb, leb→le}
 use lib.ListN.{length}
 use Rattle.definitions.specs.Calls.{Call}
-use Rattle.history.specs.Tools.{Split, split, Same, eq, ne, same?, le-leb}
+use Rattle.history.specs.Tools.{by-lt, Split, split, Same, eq, ne, same?, lt-ltb, le-leb}
 use Rattle.history.specs.Definition1.{Operation, total}
 use Rattle.history.specs.Notes.{Note}
 use Rattle.history.specs.Ledger.{Fate, ledger, read-lines}
-use Rattle.history.specs.Effects.{Effect, effects, value-at, changed-between, count-if, total-at}
+use Rattle.history.specs.Effects.{effects, value-at, changed-between, count-if, total-at}
 use Rattle.history.specs.Statements.{TotalLines, no-item, born-later, read, ExactTotal}
-use Rattle.history.specs.Machine.{Memory, Limits, Place, unplaced, awaits, changes, observes, Catalogue, after-calls}
+use Rattle.history.specs.Machine.{Limits, Place, unplaced, awaits, changes, observes, Catalogue, after-calls}
 use Rattle.history.specs.Facts.{Sum, empty, skip, plus, Read}
 use Rattle.history.specs.RightAnswers.{RightAnswer, TotalRead, AtLastStep}
-use Rattle.history.specs.Places.{asked-for, ChangeRight, ObserverRight, PlaceRight, Invariant}
+use Rattle.history.specs.Places.{ObserverRight, PlaceRight, Invariant}
 use Rattle.history.specs.Run.{run-right}
 use Rattle.history.specs.OrderList.{effects-rise}
 use Rattle.history.specs.OrderShown.{operation-tag, asked-tag, change-operation}
@@ -26,8 +26,9 @@ use Rattle.history.specs.StepCount.{total-bound}
 use Rattle.history.specs.MachineNotes.{machine-notes}
 use Rattle.history.specs.LedgerRight.{Agrees, agrees}
 use Rattle.history.specs.ExactReads.{value-seen, passed-is}
-use Rattle.history.specs.EffectsRight.{MemoryEffects}
 use Rattle.history.specs.EffectsRun.{Effected, effected}
+use Rattle.history.specs.TotalTrace.{TotalTrace, none, skips, reads, TotalEnd, EndTotal}
+use Rattle.history.specs.TotalRun.{total-run}
 
 both-true : (a b : Bool) (s : ℕ) → T a → cond (a && b) s 0 ≡ cond b s 0
 both-true true b s t = refl
@@ -36,6 +37,17 @@ both-true false b s t = absurd t
 first-false : (a b : Bool) (s : ℕ) → (T a → ⊥) → cond (a && b) s 0 ≡ 0
 first-false true b s f = absurd (f tt)
 first-false false b s f = refl
+
+-- ones below k, and zeros from there on
+ones : {g : ℕ → ℕ} (k n : ℕ) → k ≤ n → ((y : ℕ) → y < k → g y ≡ 1) → ((y : ℕ) → k ≤ y → y < n → g y ≡ 0) → sum-to g n ≡ k
+unfolding sum-to
+ones {g} k zero p a b = omega arith
+ones {g} k (suc n) p a b = at (same? k (suc n)) (ones {g = g} (pred k) n) (ones {g = g} k n)
+  where
+    at : Same k (suc n) → (pred k ≤ n → ((y : ℕ) → y < pred k → g y ≡ 1) → ((y : ℕ) → pred k ≤ y → y < n → g y ≡ 0) → sum-to g n ≡ pred k) →
+      (k ≤ n → ((y : ℕ) → y < k → g y ≡ 1) → ((y : ℕ) → k ≤ y → y < n → g y ≡ 0) → sum-to g n ≡ k) → g n + sum-to g n ≡ k
+    at (eq e) f h = omega (arith, f (omega arith) (λ y q. a y (omega arith)) (λ y q r. absurd (omega arith)), a n (omega arith))
+    at (ne e) f h = omega (arith, h (omega arith) a (λ y q r. b y q (omega arith)), b n (omega arith) (omega arith))
 
 module _ (s : Catalogue) (invariant : Invariant s) (run : List Note) (E : Effected s run) (q h : ℕ) (gone : h < s .memory .camera .counter) where
   -- what the total has of an item
@@ -82,28 +94,45 @@ module _ (s : Catalogue) (invariant : Invariant s) (run : List Note) (E : Effect
       at g (ne e) = omega (arith, g (omega arith) (λ y u v. f y u (omega arith)), not-born n (f n (omega arith) (omega arith)))
 
   -- the lines, item by item
-  lines-are : (o e ended : ℕ) → e ≡ suc ended → {i u : ℕ} {l : List ℕ} → Sum (s .memory) q h o e i u l →
-      TotalLines (effects run) (s .memory .camera .left-at h) o ended i l
-  lines-are o e ended a empty = no-item
-  lines-are o e ended a (skip {i} {u} {l} z x y) =
-      born-later {i = i} (s .memory .item i .effect-at 0) (s .memory .item i .value 0) (s .memory .item i .size) (E .memory .versions i 0 z)
-          (invariant .kept .memory .item i .counted 0 z .past h x) (lines-are o e ended a y)
-  lines-are o e ended a (plus {i} {u} {l} j r x y) =
-      subst (λ (r : List ℕ). TotalLines (effects run) (s .memory .camera .left-at h) o ended (suc i) (r ++ l))
-          (ap (read-lines (x .tbd)) (passed-is s invariant run E i h o e j r x) ∙ sym (x .lines))
-        (read {i = i} (x .tbd) (x .f) (x .since) (omega (arith, x .till)) (lines-are o e ended a y))
+  lines-are : {o e i g : ℕ} {l : List ℕ} → TotalTrace (s .memory) run h o e i l g → TotalLines run (s .memory .camera .left-at h) o i l g
+  lines-are none = no-item
+  lines-are (skips {i} {g} {l} f y p z x r) =
+      born-later {i = i} f (s .memory .item i .effect-at 0) (s .memory .item i .value 0) (s .memory .item i .size) y p (E .memory .versions i 0 z)
+        (invariant .kept .memory .item i .counted 0 z .past h x) (lines-are r)
+  lines-are {o} {e} (reads {i} {g} {l} f y p j r x w z) =
+      subst (λ (r : List ℕ). TotalLines run (s .memory .camera .left-at h) o (suc i) (r ++ l) f)
+        (ap (read-lines (x .tbd)) (ap (λ (f : ℕ). count-if (changed-between i (s .memory .camera .left-at h) f) (effects run)) (sym w)
+          ∙ passed-is s invariant run E i h o e j r x) ∙ sym (x .lines))
+        (read {i = i} f (x .tbd) y p (lines-are z))
 
-  exact-total : (A : Agrees s run) (o τ x : ℕ) → s .fate o .answer ≡ x → τ ≡ s .fate o .ended-at → TotalRead (s .memory) q h o (s .fate o .lines) τ x →
+  exact-total : (A : Agrees s run) (o τ x e : ℕ) → TotalEnd (s .memory) run h o e (s .fate o .lines) → s .fate o .answer ≡ x → τ ≡ s .fate o .ended-at →
+      TotalRead (s .memory) q h o (s .fate o .lines) τ x →
       ExactTotal run o q h
-  exact-total A o τ x a b R =
+  exact-total A o τ x e D a b R =
       record {
         left = s .memory .camera .left-at h; taken = E .memory .snapshots h gone;
         answer = ap (λ (f : Fate). f .answer) (A .fate o) ∙ a ∙ sum-is (R .sum) ∙ sym (all-items (R .k) (s .memory .items) (R .registered) later) ∙ shares;
-        items = R .k; lines = R .earlier;
-        each = subst (λ (t : ℕ). TotalLines (effects run) (s .memory .camera .left-at h) o t (R .k) (R .earlier))
-            (b ∙ sym (ap (λ (f : Fate). f .ended-at) (A .fate o))) (lines-are o (suc τ) τ refl (R .sum));
-        closing = ap (λ (f : Fate). f .lines) (A .fate o) ∙ R .lines }
+        items = D .k; lines = D .done; last = D .g; each = lines-are (D .trace); closing = ap (λ (f : Fate). f .lines) (A .fate o) ∙ D .lines;
+        noted = same (split (D .k) (R .k)) (split (R .k) (D .k)) ∙ sym (ones (R .k) (s .memory .items) (R .registered) young old)
+          ∙ sym (E .memory .births (λ t i v z. cond (ltb t o) 1 0)) }
     where
+      -- the number noted is the one that the sum is over
+      same : Split (D .k) (R .k) → Split (R .k) (D .k) → D .k ≡ R .k
+      same (Split.less u) v = absurd (omega (arith, R .noted (D .k) u, D .covers (D .k) (omega arith) (R .have (D .k) u)))
+      same (Split.more u) (Split.less v) = absurd (omega (arith, D .noted (R .k) v, R .covers (R .k) (omega arith) (D .have (R .k) v)))
+      same (Split.more u) (Split.more v) = omega arith
+      young : (y : ℕ) → y < R .k → _≡_ {A = ℕ} (cond (ltb (s .memory .item y .effect-at 0) o) 1 0) 1
+      young y u = yes (ltb (s .memory .item y .effect-at 0) o)
+          (lt-ltb (s .memory .item y .effect-at 0) o (omega (arith, R .noted y u, invariant .kept .memory .item y .birth (R .have y u))))
+        where
+          yes : (b : Bool) → T b → _≡_ {A = ℕ} (cond b 1 0) 1
+          yes true t = refl
+          yes false t = absurd t
+      old : (y : ℕ) → R .k ≤ y → y < s .memory .items → _≡_ {A = ℕ} (cond (ltb (s .memory .item y .effect-at 0) o) 1 0) 0
+      old y u v =
+          by-lt (λ (n : ℕ). n ≡ 0) (s .memory .item y .effect-at 0) o
+            (λ p. absurd (omega (arith, R .covers y u (invariant .kept .memory .registered y v), invariant .kept .memory .item y .birth
+                (invariant .kept .memory .registered y v)))) (λ p. refl)
       later : (y : ℕ) → R .k ≤ y → y < s .memory .items → s .memory .camera .left-at h < s .memory .item y .effect-at 0
       later y u v = omega (arith, R .when, R .covers y u (invariant .kept .memory .registered y v), invariant .kept .memory .item y .birth
           (invariant .kept .memory .registered y v))
@@ -137,8 +166,15 @@ pub exact-totals : (limits : Limits) (cs : List Call) (o q h : ℕ) → ledger (
     ledger (machine-notes limits cs) .fate o .done ≡ true → ExactTotal (machine-notes limits cs) o q h
 exact-totals limits cs o q h w d =
     exact-total (after-calls limits cs) (run-right limits cs) (machine-notes limits cs) (effected limits cs) q h (x .1 .gone) (agrees limits cs) o
-        (x .0) _ refl (x .2) (x .1)
+        (x .0) _ _ there refl (x .2) (x .1)
   where
+    there : TotalEnd (after-calls limits cs .memory) (machine-notes limits cs) h o (suc (after-calls limits cs .fate o .ended-at))
+        (after-calls limits cs .fate o .lines)
+    there =
+        subst (λ (op : Operation). EndTotal (after-calls limits cs .memory) (machine-notes limits cs) o (suc (after-calls limits cs .fate o .ended-at))
+            (after-calls limits cs .fate o .lines) op)
+          (sym (ap (λ (f : Fate). f .operation) (agrees limits cs .fate o)) ∙ w)
+              (total-run limits cs .ends o (sym (ap (λ (f : Fate). f .done) (agrees limits cs .fate o)) ∙ d))
     x : (τ : ℕ) × TotalRead (after-calls limits cs .memory) q h o (after-calls limits cs .fate o .lines) τ (after-calls limits cs .fate o .answer)
         × (τ ≡ after-calls limits cs .fate o .ended-at)
     x = finished-total (after-calls limits cs) (run-right limits cs) o q h (sym (ap (λ (f : Fate). f .operation) (agrees limits cs .fate o)) ∙ w)

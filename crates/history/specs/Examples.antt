@@ -1,17 +1,17 @@
 -- Three runs with their one order written out: in none of them is it the order of the answers.
 use mathlib.Core.Path.{_≡_, refl, _∙_}
-use mathlib.Core.Bool.{Bool, true, false}
+use mathlib.Core.Bool.{true}
 use mathlib.Core.List.{List, [], _∷_, _++_}
-use Prim.Native.Nat.{ℕ, zero, suc, _*_}
+use Prim.Native.Nat.{ℕ}
 use lib.ListN.{replicate}
 use Rattle.definitions.specs.Calls.{Call}
 use Rattle.history.specs.Tools.{put}
-use Rattle.history.specs.Notes.{Note}
-use Rattle.history.specs.Effects.{Effect, birth, change, snapshot, last-step, last-published, deed-effect, note-effect, insert, insert-all,
-    effects}
-use Rattle.history.specs.Machine.{Limits, Catalogue, first-free, node-to-take, used-next, all-but-first, one-taken, one-returned, after,
-    total-at, line, memory-after, place-after, ended, turned-away, affect, settle, tick, stepped, stepping, first-phase, begun, starting, registered,
-    registering, move, call, reply, fresh, after-calls}
+use Rattle.history.specs.Definition1.{v-cas, read-snapshot}
+use Rattle.history.specs.Ledger.{ledger, entered, step-entered}
+use Rattle.history.specs.Effects.{birth, change, snapshot, last-step, last-published, deed-effect, note-effect, insert, insert-all, effects}
+use Rattle.history.specs.Machine.{Limits, first-free, node-to-take, used-next, all-but-first, one-taken, one-returned, after, total-at, line,
+    memory-after, place-after, ended, turned-away, affect, settle, tick, stepped, stepping, first-phase, begun, starting, registered, registering,
+    move, call, reply, fresh, after-calls}
 use Rattle.history.specs.MachineNotes.{machine-note, machine-notes}
 use Rattle.history.specs.OrderList.{slot-onto, order-to}
 use Rattle.history.specs.NotesOrder.{notes-order, notes-order-is}
@@ -54,6 +54,21 @@ unfolding helped effects insert-all insert note-effect deed-effect last-step las
     used-next all-but-first one-taken one-returned after total-at line memory-after place-after ended turned-away affect settle tick stepped stepping
     first-phase begun starting registered registering move call reply fresh after-calls put
 helped-effects = refl
+
+-- What the readSnapshot (16) and the vCAS (1) came to: 2 in 3 steps, and 1 in 7, the last of all.
+helped-read : ledger (machine-notes sizes (made helped [])) .fate 16
+  ≡ record { operation = read-snapshot 0 0; worker = 2; done = true; answer = 2; ended-at = 19; lines = 34 ∷ 20 ∷ 32 ∷ []; refusal = 0 }
+unfolding helped ledger entered step-entered machine-notes machine-note first-free node-to-take used-next all-but-first one-taken one-returned after total-at line memory-after
+    place-after ended turned-away affect settle tick stepped stepping first-phase begun starting registered registering move call reply fresh
+    after-calls put
+helped-read = refl
+
+helped-change : ledger (machine-notes sizes (made helped [])) .fate 1
+  ≡ record { operation = v-cas 0 1 2; worker = 0; done = true; answer = 1; ended-at = 21; lines = 48 ∷ 20 ∷ 46 ∷ 45 ∷ 43 ∷ 20 ∷ 41 ∷ []; refusal = 0 }
+unfolding helped ledger entered step-entered machine-notes machine-note first-free node-to-take used-next all-but-first one-taken one-returned after total-at line memory-after
+    place-after ended turned-away affect settle tick stepped stepping first-phase begun starting registered registering move call reply fresh
+    after-calls put
+helped-change = refl
 
 -- A lost vCAS comes right after the first change, while a second change follows. Worker 1's vCAS(1,3) (2) is past 45 when worker 0's vCAS(1,2) (1) changes
 -- the value; worker 2's

@@ -1,11 +1,10 @@
 -- What is known of the memory at time t: every time in it is past, versions follow one another, stamps are what the counter was.
 use mathlib.Core.Path.{_≡_}
 use mathlib.Core.Logic.{_≢_}
-use mathlib.Core.Bool.{Bool, true, false, cond}
+use mathlib.Core.Bool.{Bool, cond}
 use mathlib.Core.List.{List, [], _∷_, _++_}
-use Prim.Native.Nat.{ℕ, zero, suc, _+_, _≤_, _<_}
+use Prim.Native.Nat.{ℕ, suc, _+_, _≤_, _<_}
 use lib.Dec.{eqb}
-use lib.ListN.{replicate}
 pub use Rattle.history.specs.Ledger.{helped, read-lines}
 use Rattle.history.specs.Machine.{Item, Camera, Memory}
 

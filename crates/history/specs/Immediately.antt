@@ -1,34 +1,32 @@
 -- A vCAS that lost comes immediately after the change it lost to: at that instant there is nothing else but others that lost to it.
 use mathlib.Core.Path.{_≡_, refl, ap, ap₂, sym, _∙_, subst}
 use mathlib.Core.Logic.{_≢_, _⊎_, inl, inr}
-use mathlib.Core.Bool.{Bool, true, false, true≢false}
+use mathlib.Core.Bool.{Bool, true, false}
 use mathlib.Core.List.{List, [], _∷_}
-use Prim.Native.Nat.{ℕ, zero, suc, _+_, _*_, _≤_, _<_, max}
+use Prim.Native.Nat.{ℕ, zero, suc, _+_, _*_, _≤_, _<_}
 use native.Mathlib.Omega.{arith}
 use lib.ListN.{length, getD}
 use Rattle.history.specs.Tools.{Split, split, Same, eq, ne, same?}
 use Rattle.history.specs.Definition1.{Operation, register, v-read, v-cas, take-snapshot, read-snapshot, total}
 use Rattle.history.specs.Notes.{Deed, Note}
 use Rattle.history.specs.Notes as Notes
-use Rattle.history.specs.Ledger.{Fate, ledger}
+use Rattle.history.specs.Ledger.{ledger}
 use Rattle.history.specs.NoteParts.{deed-item, note-tag, note-worker, note-line, note-deed}
-use Rattle.history.specs.Statements.{Noted, Executed, LostTo, In, first, later, Once, Falling, Behind, RightAfter, Immediately}
-use Rattle.history.specs.Machine.{Item, Memory, Place, unplaced, awaits, changes, observes, Catalogue}
-use Rattle.history.specs.Facts.{MemoryFacts}
-use Rattle.history.specs.RightAnswers.{RightAnswer, SnapshotRead, TotalRead, AtLastStep}
-use Rattle.history.specs.Places.{asked-for, ChangeRight, ObserverRight, PlaceRight, Invariant}
-use Rattle.history.specs.OneOrder.{key-of, OneOrder}
-use Rattle.history.specs.OrderShown.{operation-tag, asked-tag}
+use Rattle.history.specs.Statements.{Noted, Executed, LostTo, In, first, later, Falling, Behind, RightAfter, Immediately}
+use Rattle.history.specs.Machine.{Item, Place, unplaced, awaits, changes, observes, Catalogue}
+use Rattle.history.specs.RightAnswers.{RightAnswer, TotalRead, AtLastStep}
+use Rattle.history.specs.Places.{ChangeRight, ObserverRight, PlaceRight, Invariant}
+use Rattle.history.specs.OneOrder.{key-of}
+use Rattle.history.specs.OrderShown.{operation-tag}
 use Rattle.history.specs.Order.{has-one-order}
-use Rattle.history.specs.Trace.{FetchedBy, LostAt, HeadTraced, LossTraced, CasTraced, ends-43, ends-48, ends-52, ReadTraced, EndTraced,
-    Stamping, MemoryTraced, Traced, noted-past}
-use Rattle.history.specs.Moments.{Ended, Moments}
+use Rattle.history.specs.Trace.{HeadTraced, CasTraced, ends-43, ends-48, ends-52, EndTraced, Stamping, Traced, noted-past}
+use Rattle.history.specs.Moments.{Ended, BornBy, Moments}
 use Rattle.history.specs.TraceRun.{done-past}
-use Rattle.history.specs.Instants.{stamped-rises, stamped-first, lost-to}
+use Rattle.history.specs.Instants.{stamped-first, lost-to}
 
 -- ---- at one time there is one note
 
-noted-one : (x y : Note) (past past' run : List Note) → Noted x past run → Noted y past' run → length past ≡ length past' → (x ≡ y) × (past ≡ past')
+pub noted-one : (x y : Note) (past past' run : List Note) → Noted x past run → Noted y past' run → length past ≡ length past' → (x ≡ y) × (past ≡ past')
 noted-one x y past past' [] a b e = absurd a
 noted-one x y past past' (z ∷ l) (inl (p, q)) (inl (p', q')) e = (p ∙ sym p', q ∙ sym q')
 noted-one x y past past' (z ∷ l) (inl (p, q)) (inr b) e = absurd (omega (arith, ap length q, noted-past y past' l b))
@@ -37,15 +35,22 @@ noted-one x y past past' (z ∷ l) (inr a) (inr b) e = noted-one x y past past' 
 
 module _ (run : List Note) where
   -- two events at one time are one
-  same-event : {o o' k k' t : ℕ} {d d' : Deed} → Executed run o k d t → Executed run o' k' d' t → (k ≡ k') × (d ≡ d') × (o ≡ o')
+  pub same-event : {o o' k k' t : ℕ} {d d' : Deed} → Executed run o k d t → Executed run o' k' d' t → (k ≡ k') × (d ≡ d') × (o ≡ o')
   same-event {o} {o'} {k} {k'} {t} {d} {d'} a b =
       let z : (Notes.stepped (a .w) k d (a .e) ≡ Notes.stepped (b .w) k' d' (b .e)) × (a .past ≡ b .past) = noted-one (Notes.stepped (a .w) k d (a .e))
           (Notes.stepped (b .w) k' d' (b .e)) (a .past) (b .past) run (a .noted) (b .noted) (a .at ∙ sym (b .at)) in
       (ap note-line (z .0), ap note-deed (z .0), sym (a .its) ∙ ap₂ (λ (l : List Note) (w : ℕ). ledger l .current w) (z .1) (ap note-worker (z .0))
           ∙ b .its)
 
-  other-line : {o o' k k' t : ℕ} {d d' : Deed} → Executed run o k d t → Executed run o' k' d' t → k ≢ k' → ⊥
+  pub other-line : {o o' k k' t : ℕ} {d d' : Deed} → Executed run o k d t → Executed run o' k' d' t → k ≢ k' → ⊥
   other-line a b n = n (same-event a b .0)
+
+-- a registering call is no step
+pub not-registered : (run : List Note) {it : Item} {i o k : ℕ} {d : Deed} → BornBy it run i → Executed run o k d (it .effect-at 0) → ⊥
+not-registered run {it} {i} {o} {k} {d} b r =
+    let z : _≡_ {A = ℕ} 1 3 = ap note-tag (noted-one (Notes.registered i (it .value 0) (it .size)) (Notes.stepped (r .w) k d (r .e)) (b .past)
+        (r .past) run
+      (b .noted) (r .noted) (b .at ∙ sym (r .at)) .0) in omega arith
 
 -- ---- what else takes effect at the instant of version g + 1 of item i
 
@@ -56,15 +61,13 @@ module _ (s : Catalogue) (invariant : Invariant s) (run : List Note) (T : Traced
   read-21 t e = subst (λ (t : ℕ). Executed run (T .memory .stamped i g good .o) 21 Notes.nothing t) (sym e) (T .memory .stamped i g good .read)
 
   -- a change at that instant is this one
-  same-change : (i' j : ℕ) → j < s .memory .item i' .valid → s .memory .item i' .effect-at j ≡ s .memory .item i .effect-at (suc g) →
+  pub same-change : (i' j : ℕ) → j < s .memory .item i' .valid → s .memory .item i' .effect-at j ≡ s .memory .item i .effect-at (suc g) →
       (i' ≡ i) × (j ≡ suc g)
-  same-change i' zero p e =
-      let b : (v z : ℕ) × (past : List Note) × Noted (Notes.registered i' v z) past run × (length past ≡ s .memory .item i' .effect-at 0) =
-          M .births i' (there (split i' (s .memory .items))) in
-      let r : Executed run (T .memory .stamped i g good .o) 21 Notes.nothing (s .memory .item i' .effect-at 0) = read-21 _ e in
-      let z : _≡_ {A = ℕ} 1 3 = ap note-tag (noted-one (Notes.registered i' (b .0) (b .1)) (Notes.stepped (r .w) 21 Notes.nothing (r .e)) (b .2)
-          (r .past) run (b .3) (r .noted) (b .4 ∙ sym (r .at)) .0) in absurd (omega arith)
+  same-change i' zero p e = absurd (other-note (M .births i' (there (split i' (s .memory .items)))) (read-21 _ e))
     where
+      other-note : BornBy (s .memory .item i') run i' → Executed run (T .memory .stamped i g good .o) 21 Notes.nothing (s .memory .item i' .effect-at 0) →
+          ⊥
+      other-note b r = not-registered run b r
       there : Split i' (s .memory .items) → i' < s .memory .items
       there (Split.less q) = q
       there (Split.more q) = absurd (omega (arith, invariant .kept .memory .unregistered i' q, invariant .kept .memory .item i' .valid-published))

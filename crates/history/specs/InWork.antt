@@ -3,14 +3,14 @@ use mathlib.Core.Path.{_≡_, refl, ap, sym, _∙_, subst}
 use mathlib.Core.Logic.{_≢_}
 use mathlib.Core.Bool.{Bool, true, false, cond, not, true≢false}
 use mathlib.Core.List.{List, [], _∷_}
-use Prim.Native.Nat.{ℕ, zero, suc, _+_, _≤_, _<_}
+use Prim.Native.Nat.{ℕ, _<_}
 use native.Mathlib.Omega.{arith}
-use lib.Dec.{T, leb, eqb, leb→le, nleb→lt}
+use lib.Dec.{eqb, leb→le, nleb→lt}
 use Rattle.definitions.specs.Calls.{Call}
 use Rattle.history.specs.Tools.{put, put-all, put-same, put-other, by-eq, by-test, Same, eq, ne, same?}
 use Rattle.history.specs.Notes.{Deed, Ending, Note, step-note}
 use Rattle.history.specs.Notes as Notes
-use Rattle.history.specs.Counts.{goes, in-operation}
+use Rattle.history.specs.Counts.{in-operation}
 use Rattle.history.specs.Machine.{Memory, Limits, found, node-to-take, Operation, Phase, line-number, Comes, goes-on, ends-with,
     answers-change, answers, line, Worker, idle, busy, Catalogue, settle, affect, tick, Move, is-idle, no-worker, step-answer, begun, registered,
     call, reply, move, stepping, stepped, refused, fresh, after-calls}
@@ -18,8 +18,8 @@ use Rattle.history.specs.RightAnswers.{RefusedLines, no-node-left, count
 use Rattle.history.specs.EachLine.{every-line}
 use Rattle.history.specs.Places.{InOperation, WorkerRight, Invariant}
 use Rattle.history.specs.Run.{run-right}
-use Rattle.history.specs.NodeCount.{limits-kept, settle-memory, same-limits}
-use Rattle.history.specs.MachineNotes.{machine-note, machine-notes, worker-line, worker-deed, phase-deed, ending, after-step, call-cases}
+use Rattle.history.specs.NodeCount.{settle-memory, same-limits}
+use Rattle.history.specs.MachineNotes.{machine-note, machine-notes, worker-line, worker-deed, phase-deed, ending, call-cases}
 
 pub record InWork (s : Catalogue) (run : List Note) : Type 0 where
   pub told : (w : ℕ) → in-operation w run ≡ not (is-idle (s .worker w))

@@ -1,33 +1,17 @@
 -- The instants of document 01, told from the notes, are the times that the machine keeps.
-use mathlib.Core.Path.{_≡_, refl, ap, ap₂, sym, _∙_, subst}
-use mathlib.Core.Logic.{_≢_, _⊎_, inl, inr}
-use mathlib.Core.Bool.{Bool, true, false, true≢false}
-use mathlib.Core.List.{List, [], _∷_}
-use Prim.Native.Nat.{ℕ, zero, suc, pred, _+_, _*_, _≤_, _<_, max}
+use mathlib.Core.Path.{_≡_, refl, ap, sym, _∙_, subst}
+use mathlib.Core.Bool.{Bool, true, false}
+use mathlib.Core.List.{List}
+use Prim.Native.Nat.{ℕ, zero, suc, _≤_, _<_, max}
 use native.Mathlib.Omega.{arith}
-use lib.ListN.{length, getD}
-use Rattle.definitions.specs.Calls.{Call}
 use Rattle.history.specs.Tools.{Split, split, Same, eq, ne, same?}
-use Rattle.history.specs.Definition1.{Operation, register, v-read, v-cas, take-snapshot, read-snapshot, total, Act, Legal}
-use Rattle.history.specs.Notes.{Deed, Note}
+use Rattle.history.specs.Notes.{Note}
 use Rattle.history.specs.Notes as Notes
-use Rattle.history.specs.Ledger.{Fate, ledger}
-use Rattle.history.specs.Statements.{Executed, FirstPublish, FirstStamp, HeadInstant, at-fetch, at-stamp, ChangeInstant, LostTo, LossInstant,
-    CasInstant, ends-43, ends-48, ends-52, Instant, In, acts}
-use Rattle.history.specs.Statements as Told
-use Rattle.history.specs.Machine.{Item, Memory, Limits, Place, unplaced, awaits, changes, observes, Catalogue, after-calls}
-use Rattle.history.specs.Facts.{Fetched, ItemFacts, MemoryFacts}
-use Rattle.history.specs.Places.{asked-for, Invariant}
-use Rattle.history.specs.Run.{run-right}
-use Rattle.history.specs.OneOrder.{time-of, Pending, Within, inside, in-call, OneOrder}
-use Rattle.history.specs.OrderShown.{operation-tag}
-use Rattle.history.specs.OrderList.{order-to}
-use Rattle.history.specs.Order.{has-one-order, order-is}
-use Rattle.history.specs.MachineNotes.{machine-notes}
-use Rattle.history.specs.LedgerRight.{Agrees, agrees}
-use Rattle.history.specs.Trace.{FetchedBy, LostAt, HeadTraced, LossTraced, CasTraced, ReadTraced, EndTraced, Stamping, MemoryTraced, Traced}
-use Rattle.history.specs.Trace as Trace
-use Rattle.history.specs.TraceRun.{traced}
+use Rattle.history.specs.Statements.{Executed, FirstStamp, HeadInstant, at-fetch, at-stamp, ChangeInstant, LostTo, LossInstant}
+use Rattle.history.specs.Machine.{Memory, Catalogue}
+use Rattle.history.specs.Facts.{MemoryFacts}
+use Rattle.history.specs.Places.{Invariant}
+use Rattle.history.specs.Trace.{FetchedBy, LostAt, Stamping, Traced}
 
 -- ---- times rise with the versions
 
@@ -103,14 +87,20 @@ module _ (s : Catalogue) (invariant : Invariant s) (run : List Note) (T : Traced
                   (first-stamp i f j' (omega arith) (subst (λ (j : ℕ). s .memory .item i .published-at j ≤ f) z (omega (arith, F .got .before)))
                       (subst (λ (j : ℕ). f < s .memory .item i .stamped-at j) z (F .no q .1 g))))
 
-  pub change-instant : (i j : ℕ) → suc j < s .memory .item i .valid → ChangeInstant run (s .memory .item i .author (suc j)) i
-      (s .memory .item i .effect-at (suc j))
+  -- version j + 1 has its stamp first after its publication
+  pub change-stamped : (i j : ℕ) → suc j < s .memory .item i .valid →
+    FirstStamp run i (s .memory .item i .published-at (suc j)) (s .memory .item i .effect-at (suc j)) (s .memory .item i .stamped-at (suc j))
+  change-stamped i j g =
+      first-stamp i (s .memory .item i .published-at (suc j)) j g (omega arith)
+        (omega (arith, invariant .kept .memory .item i .effect-after-46 (suc j) g, T .memory .stamped i j g .before))
+
+  pub change-instant : (i j : ℕ) → suc j < s .memory .item i .valid →
+    ChangeInstant run (s .memory .item i .author (suc j)) i (s .memory .item i .effect-at (suc j))
   change-instant i j g =
       record {
         v = s .memory .item i .value (suc j); p = s .memory .item i .published-at (suc j); s = s .memory .item i .stamped-at (suc j);
         published = T .memory .published i j (omega (arith, invariant .kept .memory .item i .valid-published));
-        stamped = first-stamp i (s .memory .item i .published-at (suc j)) j g (omega arith)
-            (omega (arith, invariant .kept .memory .item i .effect-after-46 (suc j) g, T .memory .stamped i j g .before)) }
+        stamped = change-stamped i j g }
 
   pub lost-to : (o i g : ℕ) → LostAt (s .memory .item i) run o i g → LostTo run o i (s .memory .item i .published-at (suc g))
   lost-to o i g x =

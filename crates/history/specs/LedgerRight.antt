@@ -1,21 +1,18 @@
 -- The ledger of a run's notes is the machine's own table: what each operation came to, and what each worker is in.
 use mathlib.Core.Path.{_≡_, refl, ap, ap₂, sym, _∙_, subst}
-use mathlib.Core.Logic.{_≢_}
 use mathlib.Core.List.{List, [], _∷_}
-use Prim.Native.Nat.{ℕ, zero, suc, _+_, _≤_, _<_}
-use native.Mathlib.Omega.{arith}
+use Prim.Native.Nat.{ℕ, suc}
 use lib.ListN.{length}
 use Rattle.definitions.specs.Calls.{Call}
 use Rattle.history.specs.Tools.{put, put-all, put-same, put-other, Same, eq, ne, same?}
 use Rattle.history.specs.Notes.{Note}
 use Rattle.history.specs.Notes as Notes
-use Rattle.history.specs.Ledger.{Fate, ended, turned-away, Ledger, begins, with-fate, step-entered, entered, ledger}
-use Rattle.history.specs.Machine.{Memory, Limits, found, node-to-take, Operation, register, Phase, line-number, Effect, Comes, goes-on,
-    ends-with, answers-change, answers, Next, line, Worker, idle, busy, Catalogue, settle, affect, tick, begun, registered, move, call, fresh,
-    after-calls, first-phase}
+use Rattle.history.specs.Ledger.{Fate, ended, turned-away, Ledger, begins, step-entered, entered, ledger}
+use Rattle.history.specs.Machine.{Limits, found, node-to-take, Operation, register, Phase, line-number, Effect, Comes, goes-on, ends-with,
+    answers-change, answers, line, Worker, idle, busy, Catalogue, settle, affect, tick, begun, registered, call, fresh, after-calls, first-phase}
 use Rattle.history.specs.Places.{Invariant}
 use Rattle.history.specs.Run.{run-right}
-use Rattle.history.specs.MachineNotes.{machine-note, machine-notes, ending, after-step, phase-deed, call-cases}
+use Rattle.history.specs.MachineNotes.{machine-note, machine-notes, ending, phase-deed, call-cases}
 
 abbrev pub InLedger : Ledger → ℕ → Worker → Type 0
 InLedger l w idle = Unit {0}

@@ -6,6 +6,7 @@ pub mod Ledger
 pub mod Effects
 pub mod Statements
 pub mod Counts
+pub mod Promises
 pub mod Machine
 pub mod Runs
 pub mod Facts
@@ -38,9 +39,13 @@ pub mod EffectsRight
 pub mod LastSteps
 pub mod EffectsRun
 pub mod ExactReads
+pub mod TotalTrace
+pub mod TotalRun
 pub mod ExactTotals
 pub mod Examples
 pub mod CountsRight
 pub mod StepsTold
 pub mod InWork
 pub mod EffectLaws
+pub mod EffectsApart
+pub mod Promised

@@ -1,11 +1,10 @@
 -- The machine of versions. It answers every call as the words do, but it keeps each item as a row of versions, numbered from the oldest.
 -- The time of a call is its index in the run, and an operation is named by the time of its start.
 -- The times kept here, the authors, the fates and the places are for the proofs: no test reads them.
-use mathlib.Core.Path.{_≡_, refl, ap, sym, _∙_, subst}
 use mathlib.Core.Bool.{Bool, true, false, not, cond, _||_}
-use mathlib.Core.List.{List, [], _∷_, _++_}
-use Prim.Native.Nat.{ℕ, zero, suc, pred, _+_, _*_, _≤_, _<_, max}
-use lib.Dec.{T, ltb, leb, eqb}
+use mathlib.Core.List.{List, [], _∷_}
+use Prim.Native.Nat.{ℕ, suc, pred, _+_, max}
+use lib.Dec.{ltb, leb, eqb}
 use lib.ListN.{length}
 use Rattle.definitions.specs.declared.Answer.{Answer}
 use Rattle.definitions.specs.Answers.{Refusal, _⇒_, finished, running, accepted, refusal}

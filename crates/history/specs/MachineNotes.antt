@@ -1,23 +1,21 @@
 -- The notes of a run of the machine of versions, and the four things that a call may be.
-use mathlib.Core.Path.{_≡_, refl, ap, sym, _∙_, subst}
-use mathlib.Core.Bool.{Bool, true, false, cond, not}
+use mathlib.Core.Path.{_≡_, refl, sym, _∙_, subst}
+use mathlib.Core.Bool.{Bool, cond, not}
 use mathlib.Core.List.{List, [], _∷_}
-use Prim.Native.Nat.{ℕ, zero, suc, pred, _+_, _≤_, _<_}
+use Prim.Native.Nat.{ℕ, suc, pred, _+_, _<_}
 use native.Mathlib.Omega.{arith}
-use lib.Dec.{T, ltb, leb, eqb, nleb→lt}
-use lib.ListN.{length}
-use Rattle.definitions.specs.declared.Answer.{Answer}
+use lib.Dec.{T, ltb, eqb, nleb→lt}
 use Rattle.definitions.specs.Answers.{Refusal, accepted}
 use Rattle.definitions.specs.Calls.{Call}
 use Rattle.history.specs.Tools.{by-eq, by-test}
 use Rattle.history.specs.Notes.{Deed, fetches, moves, Ending, Note, note-of, step-note, if-accepted}
 use Rattle.history.specs.Notes as Notes
-use Rattle.history.specs.Machine.{Item, Memory, Limits, found, node-to-take, Operation, v-read, v-cas, take-snapshot, read-snapshot, total,
-    Phase, line-37, line-39, line-41, line-43, line-45, line-46, line-48, line-50, line-51, line-52, line-5, line-6, line-32, line-34, total-32,
-    total-34, closing, line-20, line-21, line-22, helped-item, line-number, Comes, goes-on, ends-with, answers-change, answers, Next, line, Worker,
-    idle, busy, Catalogue, settle, affect, Move, refused, unless, is-idle, no-worker, step-answer, step-refusals, worker-refusals, register-refusals,
-    stepped, stepping, begun, starting, registered, registering, move, call, reply, after-calls}
-use Rattle.history.specs.RightAnswers.{phase-operation, RefusedLines, no-node-left, counter-full, ComesRight, LineRight}
+use Rattle.history.specs.Machine.{Memory, Limits, found, node-to-take, Operation, v-read, v-cas, take-snapshot, read-snapshot, total, Phase,
+    line-37, line-39, line-41, line-43, line-45, line-46, line-48, line-50, line-51, line-52, line-5, line-6, line-32, line-34, total-32, total-34,
+    closing, line-20, line-21, line-22, helped-item, line-number, Comes, goes-on, ends-with, answers-change, answers, line, Worker, idle, busy,
+    Catalogue, settle, affect, Move, refused, unless, is-idle, no-worker, step-answer, worker-refusals, register-refusals, stepped, stepping, begun,
+    starting, registered, registering, move, reply, after-calls}
+use Rattle.history.specs.RightAnswers.{RefusedLines, no-node-left, counter-full, ComesRight}
 use Rattle.history.specs.EachLine.{every-line}
 use Rattle.history.specs.Places.{Invariant, InOperation, WorkerRight}
 use Rattle.history.specs.Run.{Passed}

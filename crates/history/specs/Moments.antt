@@ -1,9 +1,9 @@
 -- The step that ended an operation, and the call that registered an item, are in the notes at the time the machine keeps.
 use mathlib.Core.Path.{_≡_, refl, ap, ap₂, sym, _∙_, subst}
 use mathlib.Core.Logic.{_≢_, _⊎_, inl, inr}
-use mathlib.Core.Bool.{Bool, true, false, true≢false}
+use mathlib.Core.Bool.{true, false, true≢false}
 use mathlib.Core.List.{List, [], _∷_}
-use Prim.Native.Nat.{ℕ, zero, suc, _+_, _≤_, _<_}
+use Prim.Native.Nat.{ℕ, suc, _<_}
 use native.Mathlib.Omega.{arith}
 use lib.ListN.{length, getD}
 use Rattle.definitions.specs.Calls.{Call}
@@ -12,16 +12,16 @@ use Rattle.history.specs.Notes.{Deed, Note}
 use Rattle.history.specs.Notes as Notes
 use Rattle.history.specs.Ledger.{Fate, ended, turned-away, ledger}
 use Rattle.history.specs.Statements.{Noted, Executed}
-use Rattle.history.specs.Machine.{Item, Memory, Limits, found, node-to-take, Operation, register, v-read, v-cas, take-snapshot, read-snapshot,
-    total, Phase, line-number, Comes, goes-on, ends-with, answers-change, answers, line, memory-after, newborn, Worker, busy, Catalogue, settle,
-    affect, tick, begun, registered, call, fresh, after-calls}
+use Rattle.history.specs.Machine.{Item, Memory, Limits, found, node-to-take, Operation, take-snapshot, Phase, line-number, Comes, goes-on,
+    ends-with, answers-change, answers, line, memory-after, newborn, Worker, busy, Catalogue, settle, affect, tick, begun, registered, call, fresh,
+    after-calls}
 use Rattle.history.specs.Machine as Machine
-use Rattle.history.specs.Facts.{MemoryFacts, Later}
+use Rattle.history.specs.Facts.{Later}
 use Rattle.history.specs.Changes.{effect-later}
 use Rattle.history.specs.RightAnswers.{phase-operation, has-published, LineRight}
 use Rattle.history.specs.EachLine.{every-line}
 use Rattle.history.specs.Places.{InOperation, WorkerRight, Invariant}
-use Rattle.history.specs.Run.{run-right, registered-later}
+use Rattle.history.specs.Run.{run-right}
 use Rattle.history.specs.NodeCount.{settle-memory}
 use Rattle.history.specs.OrderShown.{operation-tag}
 use Rattle.history.specs.MachineNotes.{machine-note, machine-notes, phase-deed, ending, after-step, call-cases}
@@ -32,10 +32,15 @@ use Rattle.history.specs.Trace.{executed-more}
 abbrev pub Ended : List Note → ℕ → Fate → Type 0
 Ended run o f = (operation-tag (f .operation) ≡ 0) ⊎ ((d : Deed) × Executed run o (getD (f .lines) 0 0) d (f .ended-at))
 
+-- an item with the call that registered it
+pub record BornBy (it : Item) (run : List Note) (i : ℕ) : Type 0 where
+  pub past : List Note
+  pub noted : Noted (Notes.registered i (it .value 0) (it .size)) past run
+  pub at : length past ≡ it .effect-at 0
+
 pub record Moments (s : Catalogue) (run : List Note) : Type 0 where
   pub ends : (o : ℕ) → s .fate o .done ≡ true → Ended run o (s .fate o)
-  pub births : (i : ℕ) → i < s .memory .items → (v z : ℕ) × (past : List Note) × Noted (Notes.registered i v z) past run
-      × (length past ≡ s .memory .item i .effect-at 0)
+  pub births : (i : ℕ) → i < s .memory .items → BornBy (s .memory .item i) run i
 
 ended-more : (run : List Note) (x : Note) (o : ℕ) (f : Fate) → Ended run o f → Ended (x ∷ run) o f
 ended-more run x o f (inl e) = inl e
@@ -44,11 +49,19 @@ ended-more run x o f (inr (d, e)) = inr (d, executed-more x e)
 module _ (s : Catalogue) (invariant : Invariant s) (run : List Note) (A : Agrees s run) (M : Moments s run) where
   -- births in a later memory with no new item
   born-more : (x : Note) (m' : Memory) → Later (s .now) (s .memory) m' → m' .items ≡ s .memory .items → (i : ℕ) → i < m' .items →
-      (v z : ℕ) × (past : List Note) × Noted (Notes.registered i v z) past (x ∷ run) × (length past ≡ m' .item i .effect-at 0)
+    BornBy (m' .item i) (x ∷ run) i
   born-more x m' L e i p =
-      let b : (v z : ℕ) × (past : List Note) × Noted (Notes.registered i v z) past run × (length past ≡ s .memory .item i .effect-at 0) =
-          M .births i (omega arith) in
-      (b .0, b .1, b .2, inr (b .3), b .4 ∙ sym (L .item i .effect-at 0 (invariant .kept .memory .registered i (omega arith))))
+      record {
+        past = b .past; at = b .at ∙ sym (L .item i .effect-at 0 good);
+        noted = inr (subst (λ (y : Note). Noted y (b .past) run)
+          (ap₂ (λ (v z : ℕ). Notes.registered i v z) (sym (L .item i .value 0 there)) (sym (L .item i .size there))) (b .noted)) }
+    where
+      b : BornBy (s .memory .item i) run i
+      b = M .births i (omega arith)
+      good : 0 < s .memory .item i .valid
+      good = invariant .kept .memory .registered i (omega arith)
+      there : 0 < s .memory .item i .versions
+      there = omega (arith, good, invariant .kept .memory .item i .valid-published)
 
   stay : Later (s .now) (s .memory) (s .memory)
   unfolding memory-after
@@ -80,14 +93,13 @@ module _ (s : Catalogue) (invariant : Invariant s) (run : List Note) (A : Agrees
       m' = registered s v z y .memory
       it : Item
       it = newborn (s .now) (s .memory .camera .counter) v z y
-      at : (i : ℕ) → i < suc (s .memory .items) → Same i (s .memory .items) → (v' z' : ℕ) × (past : List Note) × Noted (Notes.registered i v' z') past
-          (Notes.registered (s .memory .items) v z ∷ run) × (length past ≡ put (s .memory .item) (s .memory .items) it i .effect-at 0)
-      at i p (eq e) = (v, z, run, inl (ap (λ (i : ℕ). Notes.registered i v z) e, refl), sym (A .now)
-          ∙ ap (λ (it : Item). it .effect-at 0) (sym (put-same (s .memory .item) (s .memory .items) it i e)))
+      at : (i : ℕ) → i < suc (s .memory .items) → Same i (s .memory .items) → BornBy (put (s .memory .item) (s .memory .items) it i) (x ∷ run) i
+      at i p (eq e) =
+          subst (λ (it : Item). BornBy it (x ∷ run) i) (sym (put-same (s .memory .item) (s .memory .items) it i e))
+            (record { past = run; noted = inl (ap (λ (i : ℕ). Notes.registered i v z) e, refl); at = sym (A .now) })
       at i p (ne e) =
-          let b : (v z : ℕ) × (past : List Note) × Noted (Notes.registered i v z) past run × (length past ≡ s .memory .item i .effect-at 0) =
-              M .births i (omega arith) in
-          (b .0, b .1, b .2, inr (b .3), b .4 ∙ ap (λ (it : Item). it .effect-at 0) (sym (put-other (s .memory .item) (s .memory .items) it i e)))
+          subst (λ (it : Item). BornBy it (x ∷ run) i) (sym (put-other (s .memory .item) (s .memory .items) it i e))
+            (record { past = M .births i (omega arith) .past; noted = inr (M .births i (omega arith) .noted); at = M .births i (omega arith) .at })
 
   module _ (w o : ℕ) (l : List ℕ) (ph : Phase) (is : s .worker w ≡ busy o l ph) where
     cur : ledger run .current w ≡ o
@@ -124,8 +136,7 @@ module _ (s : Catalogue) (invariant : Invariant s) (run : List Note) (A : Agrees
     after-line =
         record {
           ends = step-ends (line (s .now) (s .memory) ph .does) (phase-deed (s .memory) ph) (line (s .now) (s .memory) ph .comes);
-          births = subst (λ (m : Memory). (i : ℕ) → i < m .items → (v z : ℕ) × (past : List Note) × Noted (Notes.registered i v z) past (x ∷ run)
-              × (length past ≡ m .item i .effect-at 0)) (sym after-memory)
+          births = subst (λ (m : Memory). (i : ℕ) → i < m .items → BornBy (m .item i) (x ∷ run) i) (sym after-memory)
             (born-more x (memory-after (s .now) o (line (s .now) (s .memory) ph .does) (s .memory)) L (same-items (line (s .now) (s .memory) ph .does))) }
       where
         x : Note

@@ -3,26 +3,25 @@ use mathlib.Core.Path.{_≡_, refl, ap, ap₂, sym, _∙_, subst}
 use mathlib.Core.Logic.{_≢_}
 use mathlib.Core.Bool.{Bool, true, false, cond, not}
 use mathlib.Core.List.{List, [], _∷_}
-use Prim.Native.Nat.{ℕ, zero, suc, pred, _+_, _*_, _≤_, _<_}
+use Prim.Native.Nat.{ℕ, zero, suc, _+_, _≤_, _<_}
 use native.Mathlib.Omega.{arith}
-use lib.Dec.{T, ltb, leb, eqb, ltb→lt, nleb→lt}
+use lib.Dec.{T, ltb, eqb, ltb→lt, nleb→lt}
 use lib.ListN.{length}
-use Rattle.definitions.specs.Answers.{Refusal, accepted}
+use Rattle.definitions.specs.Answers.{accepted}
 use Rattle.definitions.specs.Calls.{Call}
 use Rattle.history.specs.Tools.{put, put-all, put-same, put-other, by-eq, by-lt, by-le, by-test, Split, split, Same, eq, ne, same?}
 use Rattle.history.specs.Machine.{Item, Memory, Limits, Found, no-node, node, first-free, node-to-take, none-left, found, used-next,
     all-but-first, one-taken, one-returned, Operation, register, v-read, v-cas, take-snapshot, read-snapshot, total, Then, then-39, then-43, then-48,
     then-52, then-34, then-total-34, Phase, line-37, line-39, line-41, line-43, line-45, line-46, line-48, line-50, line-51, line-52, line-5, line-6,
     line-32, line-34, total-32, total-34, closing, line-20, line-21, line-22, after, total-at, helped-item, line-number, Effect, nothing, counts,
-    publishes, stamps, takes-node, gives-back, Comes, goes-on, ends-with, answers-change, answers, Next, only, on-45, line, memory-after, published,
-    stamped, Worker, idle, busy, Catalogue, tick, settle, affect, Move, unless, is-idle, newborn, step-refusals, worker-refusals, register-refusals,
-    stepped, stepping, first-phase, begun, starting, registered, registering, move, call, fresh, after-calls}
-use Rattle.history.specs.Facts.{MemoryFacts, ItemFacts}
-use Rattle.history.specs.Changes.{Allowed, MayPublish}
+    publishes, stamps, takes-node, gives-back, Comes, goes-on, ends-with, answers-change, answers, Next, on-45, line, memory-after, published,
+    stamped, Worker, idle, busy, Catalogue, tick, settle, affect, is-idle, newborn, step-refusals, worker-refusals, register-refusals, stepped,
+    stepping, first-phase, begun, starting, registered, registering, move, call, fresh, after-calls}
+use Rattle.history.specs.Changes.{Allowed}
 use Rattle.history.specs.PhaseFacts.{PhaseFacts}
 use Rattle.history.specs.RightAnswers.{phase-operation, has-published, LineRight}
 use Rattle.history.specs.EachLine.{every-line}
-use Rattle.history.specs.Places.{Invariant, InOperation, WorkerRight}
+use Rattle.history.specs.Places.{Invariant, WorkerRight}
 use Rattle.history.specs.Run.{Passed, unless-all, run-right}
 
 -- ---- sums

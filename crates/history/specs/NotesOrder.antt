@@ -1,22 +1,19 @@
 -- Demand 2 for the notes of every run of the machine of versions: the one order, each operation at the instant that document 01 gives.
 use mathlib.Core.Path.{_≡_, refl, ap, ap₂, sym, _∙_, subst}
-use mathlib.Core.Logic.{_≢_, _⊎_, inl, inr}
-use mathlib.Core.Bool.{Bool, true, false, true≢false}
+use mathlib.Core.Logic.{_⊎_, inl, inr}
+use mathlib.Core.Bool.{true}
 use mathlib.Core.List.{List, [], _∷_}
-use Prim.Native.Nat.{ℕ, zero, suc, pred, _+_, _*_, _≤_, _<_, max}
+use Prim.Native.Nat.{ℕ, zero, suc, _*_, _≤_, _<_}
 use native.Mathlib.Omega.{arith}
-use lib.ListN.{length, getD}
+use lib.ListN.{getD}
 use Rattle.definitions.specs.Calls.{Call}
-use Rattle.history.specs.Tools.{Split, split, Same, eq, ne, same?}
 use Rattle.history.specs.Definition1.{Operation, register, v-read, v-cas, take-snapshot, read-snapshot, total, Act, Legal}
-use Rattle.history.specs.Notes.{Deed, Note}
+use Rattle.history.specs.Notes.{Note}
 use Rattle.history.specs.Notes as Notes
 use Rattle.history.specs.Ledger.{Fate, ledger}
-use Rattle.history.specs.Statements.{Executed, FirstPublish, FirstStamp, HeadInstant, at-fetch, at-stamp, ChangeInstant, LostTo, LossInstant,
-    CasInstant, ends-43, ends-48, ends-52, Instant, In, acts}
+use Rattle.history.specs.Statements.{Executed, ChangeInstant, LossInstant, CasInstant, ends-43, ends-48, ends-52, Instant, acts}
 use Rattle.history.specs.Statements as Told
-use Rattle.history.specs.Machine.{Item, Memory, Limits, Place, unplaced, awaits, changes, observes, Catalogue, after-calls}
-use Rattle.history.specs.Facts.{Fetched, ItemFacts, MemoryFacts}
+use Rattle.history.specs.Machine.{Limits, Catalogue, after-calls}
 use Rattle.history.specs.Places.{asked-for, Invariant}
 use Rattle.history.specs.Run.{run-right}
 use Rattle.history.specs.Instants.{head-instant, change-instant, loss-instant}
@@ -28,7 +25,7 @@ use Rattle.history.specs.OrderList.{order-to}
 use Rattle.history.specs.Order.{has-one-order, order-is}
 use Rattle.history.specs.MachineNotes.{machine-notes}
 use Rattle.history.specs.LedgerRight.{Agrees, agrees}
-use Rattle.history.specs.Trace.{FetchedBy, LostAt, HeadTraced, LossTraced, CasTraced, ReadTraced, EndTraced, Stamping, MemoryTraced, Traced}
+use Rattle.history.specs.Trace.{CasTraced, EndTraced, Traced}
 use Rattle.history.specs.Trace as Trace
 use Rattle.history.specs.TraceRun.{traced}
 

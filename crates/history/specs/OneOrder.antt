@@ -1,15 +1,15 @@
 -- The one order of a run of the machine of versions: a legal sequential history of the finished operations, and of the unfinished changes that have taken
 -- effect.
-use mathlib.Core.Path.{_≡_, refl}
-use mathlib.Core.Logic.{_≢_, _⊎_, inl, inr}
-use mathlib.Core.Bool.{Bool, true, false}
-use mathlib.Core.List.{List, [], _∷_}
-use Prim.Native.Nat.{ℕ, zero, suc, _+_, _*_, _≤_, _<_}
+use mathlib.Core.Path.{_≡_}
+use mathlib.Core.Logic.{_⊎_}
+use mathlib.Core.Bool.{true, false}
+use mathlib.Core.List.{List}
+use Prim.Native.Nat.{ℕ, _+_, _*_, _≤_, _<_}
 use Rattle.history.specs.Definition1.{Legal}
 pub use Rattle.history.specs.Statements.{In, first, later, Once, Falling, acts}
 use Rattle.history.specs.RightAnswers.{AtHead, AtLoss}
-use Rattle.history.specs.Machine.{Operation, register, v-read, v-cas, take-snapshot, read-snapshot, total, Memory, Place, unplaced, awaits,
-    changes, observes, Catalogue}
+use Rattle.history.specs.Machine.{register, v-read, v-cas, take-snapshot, read-snapshot, total, Memory, Place, unplaced, awaits, changes,
+    observes, Catalogue}
 
 -- an unfinished vCAS whose version has a valid stamp
 pub record Pending (s : Catalogue) (o : ℕ) : Type 0 where

@@ -1,26 +1,25 @@
 -- Every run of the machine of versions has the one order.
-use mathlib.Core.Path.{_≡_, refl, ap, ap₂, sym, _∙_, subst}
+use mathlib.Core.Path.{_≡_, refl, ap, sym, _∙_, subst}
 use mathlib.Core.Logic.{_≢_, _⊎_, inl, inr}
-use mathlib.Core.Bool.{Bool, true, false, cond, not, true≢false}
+use mathlib.Core.Bool.{Bool, true, false, cond, true≢false}
 use mathlib.Core.List.{List, [], _∷_}
-use Prim.Native.Nat.{ℕ, zero, suc, pred, _+_, _*_, _≤_, _<_, max, min}
+use Prim.Native.Nat.{ℕ, zero, suc, _+_, _*_, _≤_, _<_}
 use native.Mathlib.Omega.{arith}
 use lib.Dec.{T, eqb, eqb→eq, eqb-refl}
-use Rattle.history.specs.Tools.{put, put-all, put-same, put-other, by-eq, by-test, Split, split, Same, eq, ne, same?}
-use Rattle.history.specs.Machine.{Item, Camera, Memory, Operation, register, v-read, v-cas, take-snapshot, read-snapshot, total, Place,
-    unplaced, awaits, changes, observes, Fate, Catalogue}
-use Rattle.history.specs.Facts.{Sees, Sum, empty, skip, plus, ItemFacts, MemoryFacts}
-use Rattle.history.specs.RightAnswers.{RightAnswer, CasSees, differs, same, SnapshotRead, TotalRead, AtHead, AtLoss, AtLastStep, change-answer}
-use Rattle.history.specs.Places.{asked-for, VersionRight, ChangeRight, ObserverRight, PlaceRight, Kept, Moved, Invariant, not-observing}
-use Rattle.history.specs.Definition1.{Act, changed, value-of, one-more, items-of, sized, size-of, total-to, Took, ReadBack, TotalBack,
-    SnapshotRight, TotalRight, TakeRight, Right, Legal}
+use Rattle.history.specs.Tools.{by-eq}
+use Rattle.history.specs.Machine.{Item, Operation, register, v-read, v-cas, take-snapshot, read-snapshot, total, Place, unplaced, awaits,
+    changes, observes, Catalogue}
+use Rattle.history.specs.Facts.{Sees}
+use Rattle.history.specs.RightAnswers.{RightAnswer, CasSees, AtHead, AtLoss, AtLastStep}
+use Rattle.history.specs.Places.{asked-for, ChangeRight, ObserverRight, PlaceRight, Invariant}
+use Rattle.history.specs.Definition1.{Act, changed, value-of, items-of, Took}
 use Rattle.definitions.specs.Calls.{Call}
 use Rattle.history.specs.Machine.{Limits, after-calls}
 use Rattle.history.specs.Run.{run-right}
-use Rattle.history.specs.OneOrder.{In, first, later, Once, Falling, acts, time-of, Pending, Within, inside, in-call, CasInstant, by-change,
-    at-43, at-52, Instants, OneOrder}
-use Rattle.history.specs.OrderList.{keyed, answer-at, acts-of, slot-onto, order-to, Keyed, Listed, Shown, Good, listed-skip, listed-take,
-    listed-next, shown-skip, shown-next, change-key, author-past}
+use Rattle.history.specs.OneOrder.{In, first, later, time-of, Pending, Within, inside, in-call, CasInstant, by-change, at-43, at-52, Instants,
+    OneOrder}
+use Rattle.history.specs.OrderList.{keyed, answer-at, acts-of, slot-onto, order-to, Good, listed-skip, listed-take, listed-next, shown-skip,
+    shown-next, change-key, author-past}
 use Rattle.history.specs.OrderShown.{operation-tag, asked-tag, change-operation, shown-observer, shown-change}
 
 abbrev NonNil {ℓ} : {A : Type ℓ} → List A → Type 0

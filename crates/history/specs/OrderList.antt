@@ -1,19 +1,18 @@
 -- The list of the placed operations: by keys, twice the time, and one more for those that see and do not change.
-use mathlib.Core.Path.{_≡_, refl, ap, ap₂, sym, _∙_, subst}
-use mathlib.Core.Logic.{_≢_, _⊎_, inl, inr}
-use mathlib.Core.Bool.{Bool, true, false, cond, not, true≢false}
+use mathlib.Core.Path.{_≡_, refl, ap, sym, _∙_, subst}
+use mathlib.Core.Logic.{_≢_}
+use mathlib.Core.Bool.{Bool, false, cond}
 use mathlib.Core.List.{List, [], _∷_}
-use Prim.Native.Nat.{ℕ, zero, suc, pred, _+_, _*_, _≤_, _<_, max, min}
+use Prim.Native.Nat.{ℕ, zero, suc, _+_, _*_, _≤_, _<_}
 use native.Mathlib.Omega.{arith}
 use lib.Dec.{T, eqb, eqb→eq, eqb-refl}
-use Rattle.history.specs.Tools.{put, put-all, put-same, put-other, by-eq, by-test, Split, split, Same, eq, ne, same?}
-use Rattle.history.specs.Machine.{Item, Camera, Memory, Operation, register, v-read, v-cas, take-snapshot, read-snapshot, total, Place,
-    unplaced, awaits, changes, observes, Fate, Catalogue}
-use Rattle.history.specs.Facts.{Sees, Sum, empty, skip, plus, ItemFacts, MemoryFacts}
-use Rattle.history.specs.RightAnswers.{RightAnswer, CasSees, differs, same, SnapshotRead, TotalRead, AtHead, AtLoss, AtLastStep, change-answer}
-use Rattle.history.specs.Places.{asked-for, VersionRight, ChangeRight, ObserverRight, PlaceRight, Kept, Moved, Invariant, not-observing}
-use Rattle.history.specs.Definition1.{Act, changed, value-of, one-more, items-of, sized, size-of, total-to, Took, ReadBack, TotalBack,
-    SnapshotRight, TotalRight, TakeRight, Right, Legal}
+use Rattle.history.specs.Tools.{put, Split, split, Same, eq, ne, same?}
+use Rattle.history.specs.Machine.{Item, Memory, Operation, take-snapshot, read-snapshot, total, Place, unplaced, awaits, changes, observes,
+    Catalogue}
+use Rattle.history.specs.Facts.{Sees}
+use Rattle.history.specs.RightAnswers.{change-answer}
+use Rattle.history.specs.Places.{Invariant}
+use Rattle.history.specs.Definition1.{Act, value-of, items-of, size-of, Took, ReadBack, TotalBack, Legal}
 use Rattle.history.specs.OneOrder.{In, first, later, Once, Falling, acts, time-of, key-of}
 
 -- ---- keys

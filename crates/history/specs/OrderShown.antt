@@ -1,22 +1,21 @@
 -- Replaying the list: what it shows of every item, and that each answer is the one of Definition 1.
 use mathlib.Core.Path.{_≡_, refl, ap, ap₂, sym, _∙_, subst}
-use mathlib.Core.Logic.{_≢_, _⊎_, inl, inr}
-use mathlib.Core.Bool.{Bool, true, false, cond, not, true≢false}
-use mathlib.Core.List.{List, [], _∷_}
-use Prim.Native.Nat.{ℕ, zero, suc, pred, _+_, _*_, _≤_, _<_, max, min}
+use mathlib.Core.Logic.{_≢_}
+use mathlib.Core.Bool.{cond}
+use mathlib.Core.List.{List, _∷_}
+use Prim.Native.Nat.{ℕ, zero, suc, _+_, _*_, _≤_, _<_, min}
 use native.Mathlib.Omega.{arith}
 use lib.Dec.{T, eqb, eqb→eq, eqb-refl}
-use Rattle.history.specs.Tools.{put, put-all, put-same, put-other, by-eq, by-test, Split, split, Same, eq, ne, same?}
-use Rattle.history.specs.Machine.{Item, Camera, Memory, Operation, register, v-read, v-cas, take-snapshot, read-snapshot, total, Place,
-    unplaced, awaits, changes, observes, Fate, Catalogue}
-use Rattle.history.specs.Facts.{Sees, Sum, empty, skip, plus, ItemFacts, MemoryFacts}
-use Rattle.history.specs.RightAnswers.{RightAnswer, CasSees, differs, same, SnapshotRead, TotalRead, AtHead, AtLoss, AtLastStep, change-answer}
-use Rattle.history.specs.Places.{asked-for, VersionRight, ChangeRight, ObserverRight, PlaceRight, Kept, Moved, Invariant, not-observing}
-use Rattle.history.specs.Definition1.{Act, changed, value-of, one-more, items-of, sized, size-of, total-to, Took, ReadBack, TotalBack,
-    SnapshotRight, TotalRight, TakeRight, Right, Legal}
-use Rattle.history.specs.OneOrder.{In, first, later, Once, Falling, acts}
-use Rattle.history.specs.OrderList.{keyed, answer-at, shown-value, acts-of, Keyed, Listed, Shot, Shown, change-key, effects-rise, author-past,
-    sees-shown, shown-is, find-read, find-total, find-take}
+use Rattle.history.specs.Tools.{put, put-all, put-same, put-other, by-eq, Split, split, Same, eq, ne, same?}
+use Rattle.history.specs.Machine.{Item, Operation, register, v-read, v-cas, take-snapshot, read-snapshot, total, Place, unplaced, awaits,
+    changes, observes, Catalogue}
+use Rattle.history.specs.Facts.{Sees, Sum, empty, skip, plus}
+use Rattle.history.specs.RightAnswers.{RightAnswer, CasSees, differs, same, SnapshotRead, TotalRead, change-answer}
+use Rattle.history.specs.Places.{asked-for, ChangeRight, ObserverRight, PlaceRight, Invariant, not-observing}
+use Rattle.history.specs.Definition1.{Act, changed, value-of, one-more, items-of, sized, size-of, total-to, Took, Right}
+use Rattle.history.specs.OneOrder.{In}
+use Rattle.history.specs.OrderList.{keyed, answer-at, shown-value, acts-of, Keyed, Listed, Shot, Shown, effects-rise, shown-is, find-read,
+    find-total, find-take}
 
 abbrev pub operation-tag : Operation → ℕ
 operation-tag (register i v z) = 0

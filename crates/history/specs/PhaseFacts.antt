@@ -1,16 +1,16 @@
 -- What a worker's phase says of the memory and of the lines executed so far, and that others' steps keep it.
-use mathlib.Core.Path.{_≡_, refl, ap, sym, _∙_, subst}
+use mathlib.Core.Path.{_≡_, sym, _∙_, subst}
 use mathlib.Core.Logic.{_≢_}
-use mathlib.Core.Bool.{Bool, true, false, cond}
+use mathlib.Core.Bool.{Bool}
 use mathlib.Core.List.{List, [], _∷_, _++_}
-use Prim.Native.Nat.{ℕ, zero, suc, _+_, _≤_, _<_}
+use Prim.Native.Nat.{ℕ, suc, _+_, _≤_, _<_}
 use native.Mathlib.Omega.{arith}
 use lib.ListN.{replicate}
 use Rattle.history.specs.Tools.{Split, split}
 use Rattle.history.specs.Machine.{Item, Camera, Limits, Memory, Then, then-39, then-43, then-48, then-52, then-34, then-total-34, Phase,
     line-37, line-39, line-41, line-43, line-45, line-46, line-48, line-50, line-51, line-52, line-5, line-6, line-32, line-34, total-32, total-34,
     closing, line-20, line-21, line-22, helped-item}
-use Rattle.history.specs.Facts.{CounterWas, Fetched, Mine, Lost, Born, Sum, helped, MemoryFacts, LaterItem, Later}
+use Rattle.history.specs.Facts.{CounterWas, Fetched, Mine, Lost, Born, Sum, helped, MemoryFacts, Later}
 use Rattle.history.specs.Later.{counter-later, fetched-later, mine-later, lost-later, born-later, sum-later}
 
 -- version j was fetched as the head at f, after o began
@@ -54,6 +54,7 @@ pub record Totals (t o : ℕ) (m : Memory) (q h k i u : ℕ) (l : List ℕ) : Ty
   pub at : i ≤ k
   pub registered : k ≤ m .items
   pub have : (x : ℕ) → x < k → 0 < m .item x .valid
+  pub noted : (x : ℕ) → x < k → m .item x .author 0 < o
   pub covers : (x : ℕ) → k ≤ x → 0 < m .item x .valid → o ≤ m .item x .author 0
   pub sum : Sum m q h o t i u l
 
@@ -166,6 +167,7 @@ module _ (o : ℕ) {t : ℕ} {m m' : Memory} (L : Later t m m') (ot : o < t) (kn
         gone = omega (arith, L .camera .counters, x .gone); when = omega (arith, L .camera .same h (x .gone), x .when); at = x .at;
             registered = omega (arith, L .items, x .registered);
         have = λ y p. omega (arith, L .item y .more-valid, x .have y p);
+        noted = λ y p. omega (arith, L .item y .author 0 (omega (arith, known .item y .valid-published, x .have y p)), x .noted y p);
         covers = λ y p r. old y p r (split 0 (m .item y .valid));
         sum = sum-later L (λ i. known .item i .valid-published) q h o t (suc t) ot (omega arith) (omega arith) (x .sum) }
     where

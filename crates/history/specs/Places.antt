@@ -1,20 +1,20 @@
 -- The table of operations: who asked for each version, where each operation stands; the invariant of the whole catalogue.
 use mathlib.Core.Path.{_≡_, refl, ap, ap₂, sym, _∙_, subst}
 use mathlib.Core.Logic.{_≢_, _⊎_, inl, inr}
-use mathlib.Core.Bool.{Bool, true, false, cond, not}
-use mathlib.Core.List.{List, [], _∷_, _++_}
-use Prim.Native.Nat.{ℕ, zero, suc, pred, _+_, _*_, _≤_, _<_, max}
+use mathlib.Core.Bool.{Bool, true, false}
+use mathlib.Core.List.{List}
+use Prim.Native.Nat.{ℕ, zero, suc, _≤_, _<_, max}
 use native.Mathlib.Omega.{arith}
 use Rattle.history.specs.Tools.{put, put-all, put-both, put-same, put-other, Split, split, Same, eq, ne, same?}
-use Rattle.history.specs.Machine.{Item, Camera, Memory, Operation, register, v-read, v-cas, take-snapshot, read-snapshot, total, Phase, Effect,
+use Rattle.history.specs.Machine.{Item, Memory, Operation, register, v-read, v-cas, take-snapshot, read-snapshot, total, Phase, Effect,
     nothing, counts, publishes, stamps, takes-node, gives-back, memory-after, place-after, published, stamped, Place, unplaced, awaits, changes,
     observes, Fate, Worker, idle, busy, Catalogue, ended, turned-away}
-use Rattle.history.specs.Facts.{CounterWas, Sees, Sum, Fetched, ItemFacts, MemoryFacts, LaterCamera, LaterItem, Later}
+use Rattle.history.specs.Facts.{MemoryFacts, LaterItem, Later}
 use Rattle.history.specs.Later.{sees-later, fetched-later, read-later, sum-later}
-use Rattle.history.specs.Changes.{Allowed, MayPublish, MayStamp, effect-later, effect-keeps, item-same, published-later, stamped-later}
+use Rattle.history.specs.Changes.{Allowed, effect-later, effect-keeps, item-same, published-later, stamped-later}
 use Rattle.history.specs.PhaseFacts.{PhaseFacts}
-use Rattle.history.specs.RightAnswers.{phase-operation, has-published, WholeLines, RefusedLines, FateLines, CasSees, SnapshotRead, TotalRead,
-    AtHead, AtLoss, AtLastStep, RightAnswer, change-answer, EndsChange}
+use Rattle.history.specs.RightAnswers.{phase-operation, has-published, WholeLines, RefusedLines, FateLines, CasSees, AtHead, AtLoss,
+    AtLastStep, RightAnswer, change-answer, EndsChange}
 
 -- ---- the table: each version's operation, each operation's place
 
@@ -124,6 +124,8 @@ module _ {t : ℕ} {m m' : Memory} (known : MemoryFacts t m) (L : Later t m m') 
       record {
         gone = omega (arith, a .gone, L .camera .counters); when = omega (arith, L .camera .same h (a .gone), a .when); k = a .k;
             registered = omega (arith, L .items, a .registered);
+        have = λ y q. omega (arith, L .item y .more-valid, a .have y q);
+        noted = λ y q. omega (arith, L .item y .author 0 (omega (arith, known .item y .valid-published, a .have y q)), a .noted y q);
         covers = λ y q r. old y q r (split 0 (m .item y .valid)); earlier = a .earlier; lines = a .lines;
         sum = sum-later L (λ i. known .item i .valid-published) q h o (suc τ) (suc τ) (omega arith) (omega arith) (omega arith) (a .sum) }
     where

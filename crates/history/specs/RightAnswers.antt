@@ -2,8 +2,8 @@
 use mathlib.Core.Path.{_≡_}
 use mathlib.Core.Logic.{_≢_, _⊎_}
 use mathlib.Core.Bool.{Bool, true, false}
-use mathlib.Core.List.{List, [], _∷_, _++_}
-use Prim.Native.Nat.{ℕ, zero, suc, _+_, _≤_, _<_, max}
+use mathlib.Core.List.{List, [], _∷_}
+use Prim.Native.Nat.{ℕ, suc, _≤_, _<_, max}
 use Rattle.history.specs.Machine.{Item, Memory, Operation, register, v-read, v-cas, take-snapshot, read-snapshot, total, Then, then-39,
     then-43, then-48, then-52, then-34, then-total-34, Phase, line-37, line-39, line-41, line-43, line-45, line-46, line-48, line-50, line-51,
     line-52, line-5, line-6, line-32, line-34, total-32, total-34, closing, line-20, line-21, line-22, Effect, nothing, counts, publishes, stamps,
@@ -154,6 +154,8 @@ pub record TotalRead (m : Memory) (q h o : ℕ) (l : List ℕ) (τ x : ℕ) : Ty
   pub when : m .camera .left-at h < o
   pub k : ℕ
   pub registered : k ≤ m .items
+  pub have : (y : ℕ) → y < k → 0 < m .item y .valid
+  pub noted : (y : ℕ) → y < k → m .item y .author 0 < o
   pub covers : (y : ℕ) → k ≤ y → 0 < m .item y .valid → o ≤ m .item y .author 0
   pub earlier : List ℕ
   pub sum : Sum m q h o (suc τ) k x earlier

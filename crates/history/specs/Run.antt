@@ -1,24 +1,24 @@
 -- Every call keeps the invariant, so it holds after every run.
-use mathlib.Core.Path.{_≡_, refl, ap, ap₂, sym, _∙_, subst}
-use mathlib.Core.Logic.{_≢_, _⊎_, inl, inr}
-use mathlib.Core.Bool.{Bool, true, false, not, true≢false}
-use mathlib.Core.List.{List, [], _∷_, _++_}
-use Prim.Native.Nat.{ℕ, zero, suc, pred, _+_, _*_, _≤_, _<_, max}
+use mathlib.Core.Path.{_≡_, refl, ap, sym, _∙_, subst}
+use mathlib.Core.Logic.{_≢_}
+use mathlib.Core.Bool.{true, false, not, true≢false}
+use mathlib.Core.List.{List, [], _∷_}
+use Prim.Native.Nat.{ℕ, suc, _≤_, _<_}
 use native.Mathlib.Omega.{arith}
-use lib.Dec.{T, ltb, leb, eqb, nltb→le, nleb→lt}
+use lib.Dec.{T, leb, nltb→le, nleb→lt}
 use Rattle.definitions.specs.Answers.{Refusal, accepted}
 use Rattle.definitions.specs.Calls.{Call}
 use Rattle.history.specs.Tools.{put, put-all, put-both, put-same, put-other, by-eq, by-test}
 use Rattle.history.specs.Machine.{Item, Memory, Limits, Operation, register, v-read, v-cas, take-snapshot, read-snapshot, total, Phase,
-    total-at, found, node-to-take, one-taken, nothing, memory-after, place-after, newborn, Place, unplaced, awaits, changes, observes, Fate, Worker,
-    idle, busy, Catalogue, tick, Move, unless, step-refusals, worker-refusals, register-refusals, stepped, stepping, first-phase, start-refusals,
-    begun, starting, registered, registering, move, call, fresh, after-calls}
-use Rattle.history.specs.Facts.{Born, Sum, empty, ItemFacts, MemoryFacts, LaterItem, Later}
+    total-at, found, node-to-take, one-taken, nothing, memory-after, place-after, newborn, Place, unplaced, changes, Fate, Worker, idle, busy,
+    Catalogue, tick, Move, unless, step-refusals, worker-refusals, register-refusals, stepped, stepping, first-phase, start-refusals, begun,
+    starting, registered, registering, move, call, fresh, after-calls}
+use Rattle.history.specs.Facts.{empty, ItemFacts, MemoryFacts, LaterItem, Later}
 use Rattle.history.specs.Changes.{effect-later, camera-stays, item-same, item-stays, newborn-facts, newborn-later}
 use Rattle.history.specs.PhaseFacts.{Totals, PhaseFacts, phase-later}
 use Rattle.history.specs.RightAnswers.{phase-operation, has-published, FateLines}
-use Rattle.history.specs.Places.{VersionRight, PlaceRight, Kept, InOperation, WorkerRight, Invariant, place-later, version-later,
-    kept-by-effect, kept-in-table, moved-later}
+use Rattle.history.specs.Places.{VersionRight, PlaceRight, Kept, WorkerRight, Invariant, place-later, version-later, kept-by-effect,
+    kept-in-table, moved-later}
 use Rattle.history.specs.Step.{unchanged, step-keeps}
 
 -- ---- refusals
@@ -73,6 +73,7 @@ module _ (s : Catalogue) (invariant : Invariant s) where
           record {
             gone = gone h (x .1 .0); when = invariant .kept .memory .left-past h (gone h (x .1 .0)); at = omega arith; registered = omega arith;
                 have = λ i p. invariant .kept .memory .registered i p;
+            noted = λ i p. by-past i 0 (omega (arith, invariant .kept .memory .registered i p, invariant .kept .memory .item i .valid-published));
             covers = λ i p r. absurd (omega (arith, invariant .kept .memory .unregistered i p, invariant .kept .memory .item i .valid-published));
                 sum = empty }
 

@@ -1,6 +1,5 @@
 -- Runs of document 01 on the machine of versions, computed: it is not hollow.
 use mathlib.Core.Path.{_≡_, refl}
-use mathlib.Core.Bool.{Bool, true, false}
 use mathlib.Core.List.{List, [], _∷_, _++_}
 use Prim.Native.Nat.{ℕ, zero, suc}
 use lib.ListN.{replicate}
@@ -10,7 +9,7 @@ use Rattle.definitions.specs.Calls.{Call}
 use Rattle.history.specs.Tools.{put}
 use Rattle.history.specs.Machine.{Limits, Catalogue, first-free, node-to-take, used-next, all-but-first, one-taken, one-returned, after,
     total-at, line, memory-after, place-after, ended, turned-away, affect, settle, tick, stepped, stepping, first-phase, begun, starting, registered,
-    registering, move, call, reply, fresh, after-calls}
+    registering, move, call, reply, fresh}
 
 abbrev sizes : (p m n q c : ℕ) → Limits
 sizes p m n q c = record { workers = p; items = m; nodes = n; projects = q; counter = c }

@@ -5,12 +5,12 @@ use mathlib.Core.Path.{_≡_}
 use mathlib.Core.Logic.{_⊎_}
 use mathlib.Core.Bool.{Bool, true, false, cond}
 use mathlib.Core.List.{List, [], _∷_, _++_}
-use Prim.Native.Nat.{ℕ, zero, suc, _+_, _≤_, _<_}
+use Prim.Native.Nat.{ℕ, suc, _+_, _≤_, _<_}
 use lib.ListN.{length, getD}
 use Rattle.history.specs.Definition1.{Operation, register, v-read, v-cas, take-snapshot, read-snapshot, total, Act, Legal}
-use Rattle.history.specs.Notes.{Deed, fetches, publishes, stamps, moves, nothing, Ending, Note, stepped}
-use Rattle.history.specs.Ledger.{Fate, Ledger, ledger, found-TBD, read-lines}
-use Rattle.history.specs.Effects.{Effect, birth, snapshot, effects, value-at, changed-between, count-if, total-at}
+use Rattle.history.specs.Notes.{Deed, fetches, publishes, stamps, moves, nothing, Ending, Note, registered, stepped}
+use Rattle.history.specs.Ledger.{Fate, ledger, found-TBD, read-lines}
+use Rattle.history.specs.Effects.{Effect, birth, change, snapshot, effects, value-at, changed-between, count-if, total-at, born-before}
 
 -- what operation o came to, and that it answered
 abbrev pub fate-of : List Note → ℕ → Fate
@@ -174,6 +174,23 @@ abbrev pub Among : Effect → List Effect → Type 0
 Among x [] = ⊥
 Among x (y ∷ l) = (x ≡ y) ⊎ Among x l
 
+-- the newest first
+abbrev pub Ordered : List Effect → Type 0
+Ordered [] = Unit {0}
+Ordered (x ∷ l) = ((y : Effect) → Among y l → y .time ≤ x .time) × Ordered l
+
+-- what an effect is the effect of
+pub data TellsOf (run : List Note) (x : Effect) : Type 0 where
+  a-birth : (i v s : ℕ) (past : List Note) → x ≡ record { time = length past; what = birth i v s } → Noted (registered i v s) past run → TellsOf run x
+  a-change : (i v p o s : ℕ) → x .what ≡ change i v p → Executed run o 46 (publishes i v) p → FirstStamp run i p (x .time) s → TellsOf run x
+  a-snapshot : (h o : ℕ) → x .what ≡ snapshot h → Executed run o 6 (moves h) (x .time) → TellsOf run x
+
+-- The list of effects: in time order, one at a time, and each is told by the run.
+pub record EffectsTold (run : List Note) : Type 0 where
+  pub ordered : Ordered (effects run)
+  pub apart : (x y : Effect) → Among x (effects run) → Among y (effects run) → x .time ≡ y .time → x ≡ y
+  pub tells : (x : Effect) → Among x (effects run) → TellsOf run x
+
 -- Demand 3. left: when the counter left h; f: when its line 32 was executed. It answers the value then, and its steps are k + 5 where line 20
 -- found TBD (line 21 is among the lines executed), else k + 3: k counts the changes with effect after left whose line 46 was before f.
 pub record ExactRead (run : List Note) (o i h : ℕ) : Type 0 where
@@ -186,20 +203,24 @@ pub record ExactRead (run : List Note) (o i h : ℕ) : Type 0 where
   pub steps :
     length (fate-of run o .lines) ≡ count-if (changed-between i left f) (effects run) + cond (found-TBD (fate-of run o .lines)) 5 3
 
--- The lines of a total, item by item: one for an item born after the counter left the handle, else those of a read whose line 32 was executed at f.
-pub data TotalLines (all : List Effect) (left o ended : ℕ) : ℕ → List ℕ → Type 0 where
-  no-item : TotalLines all left o ended 0 []
-  born-later : {i : ℕ} {l : List ℕ} (t v s : ℕ) → Among (record { time = t; what = birth i v s }) all → left < t →
-    TotalLines all left o ended i l → TotalLines all left o ended (suc i) (32 ∷ l)
-  read : {i : ℕ} {l : List ℕ} (tbd : Bool) (f : ℕ) → o < f → f ≤ ended → TotalLines all left o ended i l →
-    TotalLines all left o ended (suc i) (read-lines tbd (count-if (changed-between i left f) all) ++ l)
+-- The lines of a total, item by item in their order, each with its own line 32, executed at f, after that of the item before, at g: one line for
+-- an item born after the counter left the handle, else those of a read.
+pub data TotalLines (run : List Note) (left o : ℕ) : (items : ℕ) → List ℕ → (f : ℕ) → Type 0 where
+  no-item : TotalLines run left o 0 [] 0
+  born-later : {i g : ℕ} {l : List ℕ} (f t v s : ℕ) → Executed run o 32 nothing f → g < f → Among (record { time = t; what = birth i v s }) (effects run) →
+    left < t → TotalLines run left o i l g → TotalLines run left o (suc i) (32 ∷ l) f
+  read : {i g : ℕ} {l : List ℕ} (f : ℕ) (tbd : Bool) → Executed run o 32 nothing f → g < f → TotalLines run left o i l g →
+    TotalLines run left o (suc i) (read-lines tbd (count-if (changed-between i left f) (effects run)) ++ l) f
 
--- A total answers the sum over all items born when the counter left h whose project then was q; its steps are those of its items, and the closing one.
+-- A total answers the sum over all items born when the counter left h whose project then was q; its steps are those of its items,
+-- which are the ones born before its start, and the closing one.
 pub record ExactTotal (run : List Note) (o q h : ℕ) : Type 0 where
   pub left : ℕ
   pub taken : Among (record { time = left; what = snapshot h }) (effects run)
   pub answer : fate-of run o .answer ≡ total-at (effects run) q left
   pub items : ℕ
+  pub noted : items ≡ born-before o (effects run)
   pub lines : List ℕ
-  pub each : TotalLines (effects run) left o (fate-of run o .ended-at) items lines
+  pub last : ℕ
+  pub each : TotalLines run left o items lines last
   pub closing : fate-of run o .lines ≡ 0 ∷ lines

@@ -1,19 +1,18 @@
 -- Every step keeps the invariant.
-use mathlib.Core.Path.{_≡_, refl, ap, ap₂, sym, _∙_, subst}
-use mathlib.Core.Logic.{_≢_, _⊎_, inl, inr}
-use mathlib.Core.Bool.{Bool, true, false, not, true≢false}
-use mathlib.Core.List.{List, [], _∷_, _++_}
-use Prim.Native.Nat.{ℕ, zero, suc, pred, _+_, _*_, _≤_, _<_, max}
+use mathlib.Core.Path.{_≡_, refl, ap, sym, _∙_, subst}
+use mathlib.Core.Logic.{_≢_}
+use mathlib.Core.Bool.{true, false, true≢false}
+use mathlib.Core.List.{List, _∷_}
+use Prim.Native.Nat.{ℕ, suc, _<_}
 use native.Mathlib.Omega.{arith}
-use Rattle.history.specs.Tools.{put, put-all, put-both, put-same, put-other, Split, split}
-use Rattle.history.specs.Machine.{Item, Memory, Operation, take-snapshot, Phase, line-number, Effect, nothing, counts, publishes, stamps,
-    takes-node, gives-back, Comes, goes-on, ends-with, answers-change, answers, Next, line, memory-after, place-after, published, stamped, Place,
-    unplaced, awaits, changes, observes, Fate, Worker, idle, busy, Catalogue, ended, turned-away, settle, affect, tick, stepped}
+use Rattle.history.specs.Tools.{put, put-all, put-same, put-other, Split, split}
+use Rattle.history.specs.Machine.{Memory, take-snapshot, Phase, line-number, Effect, nothing, counts, publishes, stamps, takes-node,
+    gives-back, Comes, goes-on, ends-with, answers-change, answers, line, memory-after, place-after, Place, unplaced, observes, Fate, Worker, idle,
+    busy, Catalogue, ended, turned-away, settle, affect, tick, stepped}
 use Rattle.history.specs.Facts.{MemoryFacts, Later}
 use Rattle.history.specs.Changes.{Allowed, effect-later}
-use Rattle.history.specs.PhaseFacts.{PhaseFacts, phase-later}
-use Rattle.history.specs.RightAnswers.{phase-operation, has-published, published-after, GoesOn, EndsWith, EndsChange, AnswersRight, ComesRight,
-    Moving, LineRight}
+use Rattle.history.specs.PhaseFacts.{phase-later}
+use Rattle.history.specs.RightAnswers.{phase-operation, has-published, published-after, ComesRight, Moving, LineRight}
 use Rattle.history.specs.EachLine.{every-line}
 use Rattle.history.specs.Places.{Kept, InOperation, WorkerRight, Invariant, not-none, kept-by-effect, kept-changed, kept-refused, what-refused,
     kept-answered, Moved, moved-later, not-observing, obs-not-none, what-same}

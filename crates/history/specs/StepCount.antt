@@ -1,24 +1,22 @@
 -- The steps of an operation are the lines that it executed: exact numbers for each way to end, and never more than 5,120 before a step.
-use mathlib.Core.Path.{_≡_, refl, ap, ap₂, sym, _∙_, subst}
-use mathlib.Core.Logic.{_≢_, _⊎_, inl, inr}
-use mathlib.Core.Bool.{Bool, true, false, cond, _||_}
+use mathlib.Core.Path.{_≡_, refl, ap, sym, _∙_, subst}
+use mathlib.Core.Logic.{_⊎_, inl, inr}
+use mathlib.Core.Bool.{Bool, true, false, cond}
 use mathlib.Core.List.{List, [], _∷_, _++_}
 use Prim.Native.Nat.{ℕ, zero, suc, _+_, _*_, _≤_, _<_}
 use native.Mathlib.Omega.{arith}
-use lib.Dec.{eqb}
 use lib.ListN.{length, replicate, getD}
 use Rattle.definitions.specs.Calls.{Call}
 use Rattle.history.specs.Tools.{Split, split}
 use Rattle.history.specs.Ledger.{found-TBD}
 use Rattle.history.specs.Counts.{help-steps, CasSteps, ends-43, ends-48, ends-52}
-use Rattle.history.specs.Machine.{Item, Memory, Limits, Operation, register, v-read, v-cas, take-snapshot, read-snapshot, total, Then, then-39,
-    then-43, then-48, then-52, then-34, then-total-34, Phase, line-37, line-39, line-41, line-43, line-45, line-46, line-48, line-50, line-51,
-    line-52, line-5, line-6, line-32, line-34, total-32, total-34, closing, line-20, line-21, line-22, Worker, idle, busy, Catalogue, after-calls}
-use Rattle.history.specs.Facts.{Read, Sum, empty, skip, plus, helped, read-lines, ItemFacts, MemoryFacts}
-use Rattle.history.specs.PhaseFacts.{Tried, Totals, TotalReading, Passing, TotalWalking, Walked, ThenFacts, Helping, Storing, Helped,
-    PhaseFacts}
+use Rattle.history.specs.Machine.{Memory, Limits, Operation, v-read, Then, then-39, then-43, then-48, then-52, then-34, then-total-34, Phase,
+    line-37, line-39, line-41, line-43, line-45, line-46, line-48, line-50, line-51, line-52, line-5, line-6, line-32, line-34, total-32, total-34,
+    closing, line-20, line-21, line-22, Worker, busy, Catalogue, after-calls}
+use Rattle.history.specs.Facts.{Read, Sum, empty, skip, plus, helped, read-lines, MemoryFacts}
+use Rattle.history.specs.PhaseFacts.{Tried, Totals, Passing, ThenFacts, Helped, PhaseFacts}
 use Rattle.history.specs.RightAnswers.{CasLines, to-43, to-48, to-52, WholeLines, RefusedLines, no-node-left, counter-full, TotalRead}
-use Rattle.history.specs.Places.{Invariant, InOperation, WorkerRight}
+use Rattle.history.specs.Places.{Invariant, WorkerRight}
 use Rattle.history.specs.NodeCount.{sum-to, sum-rises, Tally, tally, limits-kept}
 use Rattle.history.specs.Run.{run-right}
 

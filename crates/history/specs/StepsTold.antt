@@ -1,11 +1,9 @@
 -- Every answer of a step carries the number of lines that its operation has executed.
-use mathlib.Core.Path.{_≡_, refl, ap, ap₂, sym, _∙_, subst}
-use mathlib.Core.Logic.{_≢_}
+use mathlib.Core.Path.{_≡_, refl, ap, ap₂, sym, _∙_}
 use mathlib.Core.Bool.{Bool, true, false, cond}
-use mathlib.Core.List.{List, [], _∷_}
-use Prim.Native.Nat.{ℕ, zero, suc, _+_}
+use mathlib.Core.List.{List, _∷_}
+use Prim.Native.Nat.{ℕ}
 use native.Mathlib.Omega.{arith}
-use lib.Dec.{T}
 use lib.ListN.{length}
 use Rattle.definitions.specs.declared.Answer.{Answer}
 use Rattle.definitions.specs.Calls.{Call}
@@ -14,8 +12,8 @@ use Rattle.history.specs.Notes.{Deed, Ending, Note, step-note}
 use Rattle.history.specs.Notes as Notes
 use Rattle.history.specs.Ledger.{ledger}
 use Rattle.history.specs.NoteParts.{note-tag, note-line}
-use Rattle.history.specs.Machine.{Limits, Phase, line-number, Comes, goes-on, ends-with, answers-change, answers, line, Worker, idle, busy,
-    Catalogue, Move, refused, no-worker, is-idle, step-answer, stepped, stepping, move, reply, after-calls}
+use Rattle.history.specs.Machine.{Limits, line-number, Comes, goes-on, ends-with, answers-change, answers, line, Worker, idle, busy, Catalogue,
+    Move, refused, no-worker, is-idle, step-answer, stepped, stepping, move, reply, after-calls}
 use Rattle.history.specs.MachineNotes.{phase-deed, worker-line, worker-deed, machine-note, machine-notes}
 use Rattle.history.specs.LedgerRight.{InLedger, Agrees, agrees}
 

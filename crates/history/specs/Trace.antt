@@ -1,21 +1,19 @@
 -- The times that the machine keeps are those of steps in its run: each has its note.
-use mathlib.Core.Path.{_≡_, refl, ap, ap₂, sym, _∙_, subst}
-use mathlib.Core.Logic.{_≢_, _⊎_, inl, inr}
+use mathlib.Core.Path.{_≡_, ap, sym, _∙_}
+use mathlib.Core.Logic.{inl, inr}
 use mathlib.Core.Bool.{Bool, true, false}
 use mathlib.Core.List.{List, [], _∷_}
-use Prim.Native.Nat.{ℕ, zero, suc, _+_, _≤_, _<_, max}
+use Prim.Native.Nat.{ℕ, suc, _≤_, _<_, max}
 use native.Mathlib.Omega.{arith}
 use lib.ListN.{length, getD}
 use Rattle.history.specs.Tools.{Split, split}
 use Rattle.history.specs.Notes.{Deed, Note}
 use Rattle.history.specs.Notes as Notes
-use Rattle.history.specs.Ledger.{ledger}
 use Rattle.history.specs.Statements.{Noted, Executed}
 use Rattle.history.specs.Machine.{Item, Memory, Operation, register, v-read, v-cas, take-snapshot, read-snapshot, total, Then, then-39,
     then-43, then-48, then-52, then-34, then-total-34, Phase, line-37, line-39, line-41, line-43, line-45, line-46, line-48, line-50, line-51,
-    line-52, line-5, line-6, line-32, line-34, total-32, total-34, closing, line-20, line-21, line-22, Place, observes, Fate, Worker, idle, busy,
-    Catalogue}
-use Rattle.history.specs.Facts.{Fetched, Read, ItemFacts, MemoryFacts, LaterItem, Later}
+    line-52, line-5, line-6, line-32, line-34, total-32, total-34, closing, line-20, line-21, line-22, Place, observes, Worker, idle, busy, Catalogue}
+use Rattle.history.specs.Facts.{Fetched, Read, MemoryFacts, Later}
 use Rattle.history.specs.Later.{fetched-later, read-later}
 
 -- ---- more notes keep an event

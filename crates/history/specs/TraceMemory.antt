@@ -1,26 +1,26 @@
 -- Each change of the memory leaves its note, and no note tells of another: publications, stamps and moves of the counter.
 use mathlib.Core.Path.{_≡_, refl, ap, ap₂, sym, _∙_, subst}
 use mathlib.Core.Logic.{_≢_, _⊎_, inl, inr}
-use mathlib.Core.Bool.{Bool, true, false, cond, not}
-use mathlib.Core.List.{List, [], _∷_}
-use Prim.Native.Nat.{ℕ, zero, suc, pred, _+_, _≤_, _<_, max}
+use mathlib.Core.Bool.{Bool, true, false, cond}
+use mathlib.Core.List.{List, _∷_}
+use Prim.Native.Nat.{ℕ, zero, suc, _≤_, _<_}
 use native.Mathlib.Omega.{arith}
-use lib.Dec.{T, ltb, leb, eqb}
+use lib.Dec.{ltb, eqb}
 use lib.ListN.{length}
-use Rattle.history.specs.Tools.{put, put-all, put-same, put-other, by-eq, by-lt, by-le, Split, split, Same, eq, ne, same?}
+use Rattle.history.specs.Tools.{put, put-all, put-same, by-eq, by-lt, by-le, Split, split}
 use Rattle.history.specs.Notes.{Deed, Note}
 use Rattle.history.specs.Notes as Notes
 use Rattle.history.specs.Ledger.{ledger}
 use Rattle.history.specs.NoteParts.{deed-tag, deed-item, note-tag, note-line, note-worker, note-deed}
 use Rattle.history.specs.Statements.{Noted, Executed}
 use Rattle.history.specs.Machine.{Item, Memory, Operation, Then, Phase, line-37, line-39, line-41, line-43, line-45, line-46, line-48, line-50,
-    line-51, line-52, line-5, line-6, line-32, line-34, total-32, total-34, closing, line-20, line-21, line-22, after, total-at, helped-item,
-    line-number, Found, no-node, node, node-to-take, on-45, Effect, nothing, counts, publishes, stamps, takes-node, gives-back, Comes, goes-on, Next,
-    line, memory-after, published, stamped, counted-up}
-use Rattle.history.specs.Facts.{ItemFacts, MemoryFacts, LaterItem, Later}
+    line-51, line-52, line-5, line-6, line-32, line-34, total-32, total-34, closing, line-20, line-21, line-22, helped-item, line-number, Found,
+    no-node, node, node-to-take, on-45, Effect, nothing, counts, publishes, stamps, takes-node, gives-back, Comes, goes-on, Next, line, memory-after,
+    published, stamped}
+use Rattle.history.specs.Facts.{MemoryFacts, Later}
 use Rattle.history.specs.Changes.{Allowed, effect-later}
-use Rattle.history.specs.MachineNotes.{phase-deed, fetch}
-use Rattle.history.specs.Trace.{PhaseTraced, ReadAt, Stamping, MemoryTraced, executed-more, executed-past}
+use Rattle.history.specs.MachineNotes.{phase-deed}
+use Rattle.history.specs.Trace.{PhaseTraced, ReadAt, Stamping, MemoryTraced, executed-more}
 
 -- ---- deeds and effects
 

@@ -1,22 +1,22 @@
 -- After every run, the times that the machine keeps are those of its notes.
-use mathlib.Core.Path.{_≡_, refl, ap, ap₂, sym, _∙_, subst}
+use mathlib.Core.Path.{_≡_, refl, ap, sym, _∙_, subst}
 use mathlib.Core.Logic.{_≢_, _⊎_, inl, inr}
-use mathlib.Core.Bool.{Bool, true, false, true≢false}
+use mathlib.Core.Bool.{true, false, true≢false}
 use mathlib.Core.List.{List, [], _∷_}
-use Prim.Native.Nat.{ℕ, zero, suc, pred, _+_, _≤_, _<_, max}
+use Prim.Native.Nat.{ℕ, suc, _≤_, _<_}
 use native.Mathlib.Omega.{arith}
 use lib.ListN.{length}
 use Rattle.definitions.specs.Calls.{Call}
-use Rattle.history.specs.Tools.{put, put-all, put-same, put-other, by-eq, Split, split, Same, eq, ne, same?}
+use Rattle.history.specs.Tools.{put, put-all, put-same, put-other, by-eq}
 use Rattle.history.specs.Notes.{Deed, Note}
 use Rattle.history.specs.Notes as Notes
 use Rattle.history.specs.Ledger.{Fate, ended, turned-away, ledger}
 use Rattle.history.specs.Statements.{Executed}
 use Rattle.history.specs.Machine.{Item, Memory, Limits, found, node-to-take, Operation, register, v-read, v-cas, take-snapshot, read-snapshot,
     total, Phase, total-at, line-number, Effect, nothing, counts, publishes, stamps, takes-node, gives-back, Comes, goes-on, ends-with,
-    answers-change, answers, Next, line, memory-after, place-after, newborn, Place, unplaced, awaits, changes, observes, Worker, idle, busy,
-    Catalogue, settle, affect, tick, first-phase, begun, registered, call, fresh, after-calls}
-use Rattle.history.specs.Facts.{MemoryFacts, Later}
+    answers-change, answers, line, memory-after, place-after, Place, unplaced, awaits, changes, observes, Worker, idle, busy, Catalogue, settle,
+    affect, tick, first-phase, begun, registered, call, fresh, after-calls}
+use Rattle.history.specs.Facts.{Later}
 use Rattle.history.specs.Changes.{Allowed, effect-later}
 use Rattle.history.specs.RightAnswers.{phase-operation, has-published, LineRight}
 use Rattle.history.specs.EachLine.{every-line}
@@ -52,6 +52,9 @@ module _ (s : Catalogue) (invariant : Invariant s) where
             (arith, c .mine, invariant .kept .memory .item i .author-first j (omega (arith, c .good, invariant .kept .memory .item i .valid-published)),
             invariant .kept .memory .item i .published-past j (omega (arith, c .good, invariant .kept .memory .item i .valid-published))))
         (λ τ j x c. omega (arith, c .since, c .till, c .past))
+
+  pub ended-past : (q : ℕ) → s .fate q .done ≡ true → s .fate q .ended-at < s .now
+  ended-past q d = done-place q d (λ p. s .fate q .ended-at < s .now) (λ i j c. c .past d) (λ τ j x c. c .past)
 
   abbrev placed-at : Place → ℕ
   placed-at unplaced = 0

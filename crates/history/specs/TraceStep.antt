@@ -1,30 +1,29 @@
 -- Each line of Algorithm 1 leaves its note: what the phase after it, or the answer, says of the run.
-use mathlib.Core.Path.{_≡_, refl, ap, ap₂, sym, _∙_, subst}
-use mathlib.Core.Logic.{_≢_, _⊎_, inl, inr}
-use mathlib.Core.Bool.{Bool, true, false, cond, not}
-use mathlib.Core.List.{List, [], _∷_}
-use Prim.Native.Nat.{ℕ, zero, suc, pred, _+_, _≤_, _<_, max}
+use mathlib.Core.Path.{_≡_, refl, ap, sym, _∙_, subst}
+use mathlib.Core.Logic.{inl}
+use mathlib.Core.Bool.{Bool, false, cond, not}
+use mathlib.Core.List.{List, _∷_}
+use Prim.Native.Nat.{ℕ, suc, pred, _+_, _≤_, _<_}
 use native.Mathlib.Omega.{arith}
-use lib.Dec.{T, ltb, leb, eqb, ltb→lt, nltb→le}
-use lib.ListN.{length, getD}
-use Rattle.history.specs.Tools.{by-eq, by-lt, by-le, Split, split}
+use lib.Dec.{T, ltb, eqb, ltb→lt, nltb→le}
+use lib.ListN.{length}
+use Rattle.history.specs.Tools.{by-eq, by-lt, by-le}
 use Rattle.history.specs.Notes.{Deed, Note}
 use Rattle.history.specs.Notes as Notes
 use Rattle.history.specs.Ledger.{ledger}
-use Rattle.history.specs.Statements.{Noted, Executed}
-use Rattle.history.specs.Machine.{Item, Memory, Operation, register, v-read, v-cas, take-snapshot, read-snapshot, total, Then, then-39,
-    then-43, then-48, then-52, then-34, then-total-34, Phase, line-37, line-39, line-41, line-43, line-45, line-46, line-48, line-50, line-51,
-    line-52, line-5, line-6, line-32, line-34, total-32, total-34, closing, line-20, line-21, line-22, after, total-at, helped-item, line-number,
-    Found, no-node, node, node-to-take, on-45, Effect, nothing, counts, publishes, stamps, takes-node, gives-back, Comes, goes-on, ends-with,
-    answers-change, answers, Next, only, line, memory-after, Place, observes, Worker, idle, busy, Catalogue}
-use Rattle.history.specs.Facts.{Fetched, Read, ItemFacts, MemoryFacts, Later}
+use Rattle.history.specs.Statements.{Executed}
+use Rattle.history.specs.Machine.{Memory, Operation, take-snapshot, Then, then-39, then-43, then-48, then-52, then-34, then-total-34, Phase,
+    line-37, line-39, line-41, line-43, line-45, line-46, line-48, line-50, line-51, line-52, line-5, line-6, line-32, line-34, total-32, total-34,
+    closing, line-20, line-21, line-22, after, total-at, helped-item, line-number, Found, no-node, node, node-to-take, on-45, Effect, nothing,
+    stamps, Comes, goes-on, ends-with, answers-change, answers, Next, only, line, memory-after, Place, observes}
+use Rattle.history.specs.Facts.{MemoryFacts, Later}
 use Rattle.history.specs.Changes.{Allowed, effect-later}
 use Rattle.history.specs.PhaseFacts.{PhaseFacts}
 use Rattle.history.specs.RightAnswers.{then-operation, phase-operation, has-published, LineRight}
 use Rattle.history.specs.EachLine.{every-line, the-read}
 use Rattle.history.specs.MachineNotes.{phase-deed, fetch, ending}
-use Rattle.history.specs.Trace.{FetchedBy, LostAt, ThenTraced, ReadAt, PhaseTraced, HeadTraced, LossTraced, CasTraced, ends-43, ends-48,
-    ends-52, ReadTraced, EndTraced, executed-more, executed-past, fetch-later, lost-later, then-traced-later}
+use Rattle.history.specs.Trace.{FetchedBy, ThenTraced, PhaseTraced, ends-43, ends-48, ends-52, EndTraced, executed-past, fetch-later,
+    lost-later, then-traced-later}
 
 abbrev pub ComesTraced : Memory → List Note → ℕ → Operation → List ℕ → Comes → Type 0
 ComesTraced m run o op l (goes-on ph) = PhaseTraced m run o ph

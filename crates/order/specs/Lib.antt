@@ -1,1 +1,3 @@
 pub mod Theorems
+pub mod LastMake
+pub mod WordsExample

@@ -1,14 +1,14 @@
 -- Turns one after the other: after each of them the words, what is kept and what was written are those of the whole text that was read so far.
-use mathlib.Core.Path.{_≡_, refl, ap, sym, _∙_, subst}
-use Prim.Native.Nat.{ℕ, _+_, _≤_}
-use mathlib.Core.Bool.{Bool, true, false, true≢false}
-use mathlib.Core.List.{List, [], _∷_, _++_}
+use mathlib.Core.Path.{_≡_, refl, ap, sym, _∙_}
+use Prim.Native.Nat.{ℕ, _≤_}
+use mathlib.Core.Bool.{true, true≢false}
+use mathlib.Core.List.{List, [], _++_}
 use native.Mathlib.Omega.{arith}
-use lib.ListN.{length, take, length-append}
-use lib.Seq.{sets, sets-eq, take-at}
+use lib.ListN.{length, take}
+use lib.Seq.{sets-eq, take-at}
 use Rattle.frames.specs.Lines.{whole-lines, unfinished}
 use Rattle.text.specs.Replies.{answers, words-after, frames-of}
-use Rattle.text.specs.Feeding.{kept, frames-in, last-frame, Piece, Last}
+use Rattle.text.specs.Feeding.{kept, frames-in, last-frame, Piece}
 use Rattle.text.specs.Pieces.{answers-append, after-append, frames-on, kept-on, frames-at-end}
 use Rattle.schedule.specs.declared.Turn.{Turn}
 use Rattle.schedule.specs.Turns.{Turned, went-on, ended}

@@ -3,8 +3,9 @@ use libc::STDERR_FILENO;
 use libc::STDIN_FILENO;
 use libc::STDOUT_FILENO;
 ghost use mathlib.Core.Path.{_≡_};
-ghost use Prim.Native.Nat.{_≤_};
-ghost use lib.ListN.{length, take};
+ghost use Prim.Native.Nat.{_+_, _≤_};
+ghost use mathlib.Core.List.{_++_};
+ghost use lib.ListN.{length, take, drop};
 ghost use Rattle.text.specs.Feeding.{Piece, Last};
 ghost use Rattle.text.specs.Replies.{lent};
 ghost use Rattle.schedule.specs.Turns.{Turned};
@@ -37,12 +38,12 @@ fn finish(bytes: &[u8], words: &mut [u32], out: &mut [u8]) -> usize
 }
 
 // The whole lines of what is held and of what was read are answered, and the answers written.
-fn answer(bytes: &mut [u8], count: usize, words: &mut [u32], out: &mut [u8]) -> Turn
-    requires { ⌜ (length (now bytes) ≡ 16384) × (length (now out) ≡ 376832) × (count ≤ 16384) ⌝ }
-    ensures { λ r. ⌜ Piece (take count (now (bytes .entry))) (now (words .entry)) (now (out .entry)) (record { held = r .held; written = r .written })
-        (now (bytes .exit)) (now (words .exit)) (now (out .exit)) ⌝ }
+fn answer(bytes: &mut [u8], held: usize, count: usize, words: &mut [u32], out: &mut [u8]) -> Turn
+    requires { ⌜ (length (now bytes) ≡ 16384) × (length (now out) ≡ 376832) × (held + count ≤ 16384) ⌝ }
+    ensures { λ r. ⌜ Piece (take held (now (bytes .entry)) ++ take count (drop held (now (bytes .entry)))) (now (words .entry)) (now (out .entry))
+        (record { held = r .held; written = r .written }) (now (bytes .exit)) (now (words .exit)) (now (out .exit)) ⌝ }
 {
-    let kept = text::answer_piece(bytes, count, words, out);
+    let kept = text::answer_piece(bytes, held + count, words, out);
     let written = kept.written;
     let goes_on = write_answers(&out[..written]);
     Turn { held: kept.held, written, goes_on }
@@ -63,7 +64,7 @@ fn take_turn(bytes: &mut [u8], held: usize, words: &mut [u32], out: &mut [u8]) -
         let written = finish(&bytes[..held], words, out);
         return Turn { held: 0, written, goes_on: false };
     }
-    answer(bytes, held + count, words, out)
+    answer(bytes, held, count, words, out)
 }
 
 // Turns until the input ends or the output cannot be written.

@@ -1,11 +1,10 @@
 -- Before any make the lent words are zero: every call but make is refused with number 2, and until a make is accepted the words stay zero.
-use mathlib.Core.Path.{_≡_, refl, ap, _∙_}
+use mathlib.Core.Path.{_≡_, refl, ap}
 use Prim.Native.Nat.{ℕ, zero, suc}
 use mathlib.Core.Bool.{Bool, true, false, cond, _||_, true≢false}
 use mathlib.Core.List.{List, [], _∷_, _++_}
 use lib.Dec.{ltb}
 use lib.ListN.{length, getD, replicate, drop}
-use Rattle.definitions.specs.declared.Answer.{Answer}
 use Rattle.definitions.specs.Answers.{Outcome, refusal, accepted, unless, _⇒_}
 use Rattle.definitions.specs.Cells.{Cells, cells-of, needed}
 use Rattle.definitions.specs.Damage.{any-of, sizes-outside, header-damaged, header-damaged-at}

@@ -1,20 +1,18 @@
 -- Laws of feeding: what the line reader's answer tells of a text, and the loop of the text function, turn by turn.
 use mathlib.Core.Path.{_≡_, refl, ap, sym, _∙_, subst}
-use Prim.Native.Nat.{ℕ, zero, suc, _+_, _*_, _-_, _/_, _<_, _≤_}
-use mathlib.Core.Bool.{Bool, true, false, cond, true≢false, false≢true}
+use Prim.Native.Nat.{ℕ, zero, suc, _+_, _*_, _-_, _<_, _≤_}
+use mathlib.Core.Bool.{Bool, true, false, cond}
 use mathlib.Core.List.{List, [], _∷_, _++_, map}
 use native.Mathlib.Nat.{sub-self, zero-add}
-use native.Mathlib.Numerals.{add-one}
 use native.Mathlib.Omega.{arith}
 use lib.ListN.{length, take, drop, getD, length-append, length-drop}
 use lib.Seq.{sets, length-sets, take-at, getD-at, drop-drop, drop-append-add}
 use Rattle.frames.specs.declared.Frame.{Frame}
-use Rattle.frames.specs.Lines.{feed, line-length, has-feed, first-line, after-line, whole-lines, unfinished}
-use Rattle.frames.specs.LineLaws.{split-feed, whole-feed, whole-none, none-there, after-none, after-shorter, after-by, unfinished-feed, unfinished-none}
+use Rattle.frames.specs.Lines.{feed, line-length, has-feed, first-line, after-line}
+use Rattle.frames.specs.LineLaws.{split-feed, whole-feed, whole-none, none-there, after-by}
 use Rattle.frames.specs.Frames.{frame}
 use Rattle.frames.specs.AnswerLines.{answer-length, answer-line}
 use Rattle.frames.specs.AnswerLaws.{sets-then, answer-line-length}
-use Rattle.text.specs.declared.Fed.{Fed}
 use Rattle.text.specs.Replies.{replied, answers, words-after}
 use Rattle.text.specs.Feeding.{room-in, frames-up-to, left-after, Feeding}
 

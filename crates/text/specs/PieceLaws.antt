@@ -1,17 +1,17 @@
 -- Laws of a piece: bytes moved to the front, all whole lines answered, and what is kept.
-use mathlib.Core.Path.{_≡_, refl, ap, sym, _∙_, subst}
-use Prim.Native.Nat.{ℕ, zero, suc, _+_, _*_, _-_, _/_, _<_, _≤_}
-use mathlib.Core.Bool.{Bool, true, false, cond, _||_, true≢false, false≢true}
+use mathlib.Core.Path.{_≡_, refl, ap, sym, _∙_}
+use Prim.Native.Nat.{ℕ, zero, suc, _+_, _*_, _-_, _<_, _≤_}
+use mathlib.Core.Bool.{Bool, true, false, cond}
 use mathlib.Core.List.{List, [], _∷_, _++_, map, append-nil}
-use native.Mathlib.Nat.{zero-add, add-comm}
+use native.Mathlib.Nat.{zero-add}
 use native.Mathlib.Numerals.{add-one}
 use native.Mathlib.Omega.{arith}
 use lib.Dec.{eqb}
 use lib.ListN.{length, take, drop, getD, set, length-append, length-drop, length-take, length-map}
-use lib.Seq.{sets, paste, paste-suc, take-paste, getD-drop, getD-append-add, length-take-le, take-all, take-take, drop-drop}
+use lib.Seq.{sets, paste, paste-suc, take-paste, getD-drop, getD-append-add, length-take-le, take-all, take-take}
 use Rattle.frames.specs.declared.Frame.{Frame}
-use Rattle.frames.specs.Lines.{feed, has-feed, first-line, after-line, onto-first, whole-lines, unfinished, last-line}
-use Rattle.frames.specs.LineLaws.{whole-feed, whole-none, unfinished-feed, unfinished-none}
+use Rattle.frames.specs.Lines.{feed, has-feed, after-line, onto-first, whole-lines, unfinished, last-line}
+use Rattle.frames.specs.LineLaws.{whole-feed, unfinished-feed, unfinished-none}
 use Rattle.frames.specs.Frames.{frame}
 use Rattle.frames.specs.AnswerLaws.{answer-line-length}
 use Rattle.text.specs.declared.Fed.{Fed}

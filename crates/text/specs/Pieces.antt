@@ -1,16 +1,16 @@
 -- Feeding a text in pieces is feeding the whole: between pieces stand only the words and at most 65 bytes of an unfinished line.
-use mathlib.Core.Path.{_≡_, refl, ap, sym, _∙_, subst}
-use Prim.Native.Nat.{ℕ, zero, suc, _+_, _<_, _≤_}
-use mathlib.Core.Bool.{Bool, true, false, cond, _||_, true≢false, false≢true}
+use mathlib.Core.Path.{_≡_, refl, ap, sym, _∙_}
+use Prim.Native.Nat.{ℕ, zero, suc, _<_}
+use mathlib.Core.Bool.{Bool, true, false, cond, _||_, true≢false}
 use mathlib.Core.List.{List, [], _∷_, _++_, map, append-assoc, append-nil}
 use native.Mathlib.Omega.{arith}
 use lib.Dec.{eqb, leb}
-use lib.ListN.{length, take, length-append, length-take}
+use lib.ListN.{length, take, length-append}
 use lib.Seq.{take-all, length-take-le}
 use borrow.Author.Tests.{leb-true, leb-false}
 use Rattle.frames.specs.declared.Frame.{Frame}
-use Rattle.frames.specs.Lines.{feed, lines-of, has-feed, first-line, after-line, onto-first, whole-lines, unfinished, last-line}
-use Rattle.frames.specs.LineLaws.{lines-in-two, whole-feed, whole-none, whole-append, unfinished-feed, unfinished-none, unfinished-append, unfinished-has-none}
+use Rattle.frames.specs.Lines.{feed, has-feed, first-line, after-line, onto-first, whole-lines, unfinished, last-line}
+use Rattle.frames.specs.LineLaws.{lines-in-two, whole-feed, whole-none, whole-append, unfinished-none, unfinished-append, unfinished-has-none}
 use Rattle.frames.specs.Frames.{frame}
 use Rattle.frames.specs.AnswerLines.{answer-line}
 use Rattle.frames.specs.FrameLaws.{too-long}

@@ -1,0 +1,18 @@
+-- Every run of the machine of versions keeps the promises.
+use mathlib.Core.List.{List}
+use Prim.Native.Nat.{_≤_}
+use Rattle.definitions.specs.Calls.{Call}
+use Rattle.history.specs.Machine.{Limits}
+use Rattle.history.specs.MachineNotes.{machine-notes}
+use Rattle.history.specs.Promises.{Promises}
+use Rattle.history.specs.NotesOrder.{notes-order}
+use Rattle.history.specs.ExactReads.{exact-reads}
+use Rattle.history.specs.ExactTotals.{exact-totals, total-most}
+use Rattle.history.specs.CountsRight.{step-counts, progress}
+use Rattle.history.specs.EffectsApart.{effects-told}
+
+pub promised : (limits : Limits) → limits .items ≤ 256 → limits .nodes ≤ 4096 → (cs : List Call) → Promises (machine-notes limits cs)
+promised limits few-items few-nodes cs =
+    record {
+      one-order = notes-order limits cs; reads = exact-reads limits cs; totals = exact-totals limits cs; total-steps = total-most limits few-items few-nodes cs;
+      step-counts = step-counts limits cs; progress = progress limits few-items few-nodes cs; effects = effects-told limits cs }
