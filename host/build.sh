@@ -1,5 +1,5 @@
 #!/usr/bin/env bash
-# usage: bash host/build.sh NAME: builds host/NAME.c against the proved archive, as target/host/NAME
+# usage: bash host/build.sh NAME [MORE..]: builds host/NAME.c, with host/MORE.c, against the proved archive, as target/host/NAME
 set -eu
 cd "$(dirname "$0")/.."
 name=$1
@@ -8,4 +8,7 @@ if [ ! -f "$archive" ] || [ -n "$(find crates -newer "$archive" -name '*.rt' -pr
   rt staticlib catalogue > /dev/null
 fi
 mkdir -p target/host
-gcc -std=c11 -O2 -Wall -Wextra -Werror -Iinclude "host/$name.c" "$archive" -o "target/host/$name"
+sources=()
+for source in "$@"; do sources+=("host/$source.c"); done
+# shellcheck disable=SC2086
+${CC:-gcc} -std=gnu11 -O2 -Wall -Wextra -Werror -Iinclude ${CFLAGS:-} "${sources[@]}" "$archive" -o "target/host/$name"

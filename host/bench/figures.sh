@@ -1,0 +1,54 @@
+#!/usr/bin/env bash
+# usage: bash host/bench/figures.sh [pairs]: every figure of docs/PERFORMANCE.md anew, into target/bench/. As root it installs what it needs from Debian.
+set -eu
+cd "$(dirname "$0")/../.."
+pairs=${1:-101}
+needed=(gcc clang valgrind liblmdb-dev libsqlite3-dev python3)
+missing=()
+for package in "${needed[@]}"; do dpkg -s "$package" > /dev/null 2>&1 || missing+=("$package"); done
+if [ ${#missing[@]} -gt 0 ] && [ "$(id -u)" = 0 ]; then apt-get install -y "${missing[@]}" > /dev/null; fi
+archive=target/staticlib/libcatalogue.a
+[ -f "$archive" ] || rt staticlib catalogue > /dev/null
+out=target/bench
+mkdir -p "$out"
+flags=(-std=gnu11 -Wall -Wextra -Iinclude)
+
+# (a) and (b): the archive against its twin, which stands in a file of its own, by three compilations of it.
+for build in "gcc -O2" "gcc -O3" "clang -O2"; do
+  command -v "${build%% *}" > /dev/null || continue
+  name=${build/ /}
+  # shellcheck disable=SC2086
+  $build "${flags[@]}" -c host/bench/twin.c -o "$out/twin-$name.o"
+  gcc -O2 "${flags[@]}" host/bench/calls.c "$out/twin-$name.o" "$archive" -o "$out/calls-$name"
+  echo "the archive against its twin, $build" | tee "$out/calls-$name.txt"
+  "$out/calls-$name" "$pairs" | tee -a "$out/calls-$name.txt"
+done
+
+# Instructions a call, by callgrind: the archive, then the twin by gcc -O2.
+echo "instructions a call: archive, twin" | tee "$out/instructions.txt"
+starts=(start_vread start_vcas start_take_snapshot start_read_snapshot start_total)
+for job in $(seq 0 14); do
+  line=""
+  for side in 0 1; do
+    prefix=goravesha; [ "$side" = 0 ] || prefix=twin
+    counted=${prefix}_${starts[$job]:-step}
+    said=$(valgrind -q --tool=callgrind --callgrind-out-file="$out/callgrind" --toggle-collect="$counted" "$out/calls-gcc-O2" -1 "$job" "$side" 2> /dev/null)
+    line="$line $(awk -v calls="${said%% *}" '/^(summary|totals):/ { printf "%.0f", $2 / calls; exit }' "$out/callgrind")"
+  done
+  echo "$line  ${said#* }" | tee -a "$out/instructions.txt"
+done
+
+# (c) the job a room has; in memory without synchronising, and the report alone.
+gcc -O2 "${flags[@]}" host/bench/room.c "$archive" -llmdb -lsqlite3 -o "$out/room"
+gcc -O2 "${flags[@]}" -DRELINKS=0 host/bench/room.c "$archive" -llmdb -lsqlite3 -o "$out/room-report"
+memory=$(mktemp -d -p /dev/shm)
+trap 'rm -rf "$memory"' EXIT
+{ echo "the room's job, databases in memory, no synchronising"; "$out/room" "$memory" 101; } | tee "$out/room.txt"
+{ echo "the report alone"; "$out/room-report" "$memory" 101; } | tee -a "$out/room.txt"
+{ echo "the room's job, databases on disk, synchronising as by default (LMDB) and NORMAL (SQLite)"; "$out/room" "$out" 3 durable; } | tee -a "$out/room.txt"
+
+# (d) growth.
+gcc -O2 "${flags[@]}" host/bench/growth.c "$archive" -o "$out/growth"
+"$out/growth" > "$out/growth.txt"
+python3 host/bench/plot.py < "$out/growth.txt" > "$out/growth.svg"
+echo "growth: $out/growth.txt, $out/growth.svg"

@@ -1,0 +1,77 @@
+/*
+ * How cost grows: nanoseconds for a whole total and a whole readSnapshot as the number of changes since the snapshot, of items and of workers grow.
+ *
+ * usage: growth: prints one line for each point: curve, x, nanoseconds for a total, steps of it, nanoseconds for a readSnapshot, steps of it
+ */
+#include "goravesha.h"
+
+#include <stdio.h>
+#include <stdlib.h>
+#include <time.h>
+
+enum { REPEATS = 41 };
+static uint32_t words[GORAVESHA_WORDS(64, 256, 4096)];
+static goravesha_answer answer;
+static size_t count;
+
+static double nanoseconds(void) {
+  struct timespec now;
+  clock_gettime(CLOCK_MONOTONIC, &now);
+  return 1e9 * (double)now.tv_sec + (double)now.tv_nsec;
+}
+
+static uint32_t run_out(uint32_t worker) {
+  while (goravesha_step(words, count, worker, &answer) == GORAVESHA_RUNNING) {}
+  return (uint32_t)answer[1];
+}
+
+static void fill(uint32_t workers, uint32_t items, uint32_t changes) {
+  count = GORAVESHA_WORDS(workers, items, 4096);
+  goravesha_make(words, count, workers, items, 4096, 4, 1000, &answer);
+  for (uint32_t i = 0; i < items; i++) goravesha_register(words, count, 1, 100, &answer);
+  for (uint32_t round = 0; round <= changes; round++) {
+    goravesha_start_take_snapshot(words, count, 0, &answer);
+    run_out(0);
+    for (uint32_t i = 0; i < items && round < changes; i++) {
+      goravesha_start_vcas(words, count, 0, i, 1 + round % 2, 2 - round % 2, &answer);
+      run_out(0);
+    }
+  }
+}
+
+static int ascending(const void *a, const void *b) {
+  double x = *(const double *)a, y = *(const double *)b;
+  return (x > y) - (x < y);
+}
+
+/* The median over workers and repeats of one operation at handle 0. */
+static double median_of(uint32_t workers, int total, uint32_t *steps) {
+  double spent[REPEATS];
+  for (int i = 0; i < REPEATS; i++) {
+    int times = total ? 4 : 200;
+    double from = nanoseconds();
+    for (int t = 0; t < times; t++) {
+      uint32_t worker = (uint32_t)t % workers;
+      if (total) goravesha_start_total(words, count, worker, 1, 0, &answer);
+      else goravesha_start_read_snapshot(words, count, worker, 0, 0, &answer);
+      *steps = run_out(worker);
+    }
+    spent[i] = (nanoseconds() - from) / times;
+  }
+  qsort(spent, REPEATS, sizeof *spent, ascending);
+  return spent[REPEATS / 2];
+}
+
+static void point(const char *curve, uint32_t x, uint32_t workers, uint32_t items, uint32_t changes) {
+  uint32_t total_steps, read_steps;
+  fill(workers, items, changes);
+  double total = median_of(workers, 1, &total_steps), read = median_of(workers, 0, &read_steps);
+  printf("%s %u %.0f %u %.1f %u\n", curve, x, total, total_steps, read, read_steps);
+}
+
+int main(void) {
+  for (uint32_t changes = 0; changes <= 14; changes++) point("changes", changes, 64, 256, changes);
+  for (uint32_t items = 16; items <= 256; items += 16) point("items", items, 64, items, 1);
+  for (uint32_t workers = 1; workers <= 64; workers = workers == 1 ? 8 : workers + 8) point("workers", workers, workers, 256, 1);
+  return EXIT_SUCCESS;
+}

@@ -1,0 +1,36 @@
+/*
+ * A second implementation of document 01 over the same words, in C: what the proved archive is compared with. It is written from document 01
+ * and docs/FIELDS.md, in the reader's order of those pages, and shares nothing with the proved code but the header's numbers.
+ */
+#ifndef GORAVESHA_ORACLE_H
+#define GORAVESHA_ORACLE_H
+
+#include "goravesha.h"
+
+enum kind { MAKE, REGISTER, START_VREAD, START_VCAS, START_TAKE_SNAPSHOT, START_READ_SNAPSHOT, START_TOTAL, STEP, KINDS };
+
+/* A call as data: its arguments stand in the order that include/goravesha.h gives them. */
+struct call {
+  enum kind kind;
+  uint32_t argument[5];
+};
+
+struct answer {
+  uint32_t code;
+  uint64_t value, steps;
+};
+
+extern const char *const kind_name[KINDS];
+
+/* The same call on the proved archive, with the answer's four numbers as the archive wrote them, and on the oracle. */
+uint32_t archive_call(const struct call *call, uint32_t *words, size_t count, goravesha_answer *answer);
+struct answer oracle_call(const struct call *call, uint32_t *words, size_t count);
+
+/* What docs/FIELDS.md's table of phases says of a phase. */
+struct phase_row {
+  unsigned char operation, line, may_answer, kept, node_words;
+};
+enum { PHASES = 36 };
+extern const struct phase_row phase_rows[PHASES];
+
+#endif

@@ -1,0 +1,157 @@
+//! A thin safe wrapper of the proved catalogue (include/goravesha.h has each call's promise).
+//!
+//! The state stands in words that the caller lends for as long as the [`Catalogue`] lives. Any words may be lent: those that are no catalogue are
+//! refused with number 2 by every call. Every refusal is a [`Refused`] with document 01's number.
+#![deny(missing_docs)]
+
+mod ffi {
+    pub type Numbers = [u64; 4];
+    extern "C" {
+        pub fn goravesha_make(words: *mut u32, count: usize, workers: u32, items: u32, nodes: u32, projects: u32, counter: u32, answer: *mut Numbers) -> u32;
+        pub fn goravesha_register(words: *mut u32, count: usize, value: u32, size: u32, answer: *mut Numbers) -> u32;
+        pub fn goravesha_start_vread(words: *mut u32, count: usize, worker: u32, item: u32, answer: *mut Numbers) -> u32;
+        pub fn goravesha_start_vcas(words: *mut u32, count: usize, worker: u32, item: u32, old: u32, new: u32, answer: *mut Numbers) -> u32;
+        pub fn goravesha_start_take_snapshot(words: *mut u32, count: usize, worker: u32, answer: *mut Numbers) -> u32;
+        pub fn goravesha_start_read_snapshot(words: *mut u32, count: usize, worker: u32, item: u32, handle: u32, answer: *mut Numbers) -> u32;
+        pub fn goravesha_start_total(words: *mut u32, count: usize, worker: u32, project: u32, handle: u32, answer: *mut Numbers) -> u32;
+        pub fn goravesha_step(words: *mut u32, count: usize, worker: u32, answer: *mut Numbers) -> u32;
+    }
+}
+
+/// The sizes of a catalogue: P, M, N, Q and C.
+#[derive(Clone, Copy, Debug, PartialEq, Eq)]
+pub struct Sizes {
+    /// P, 1 to 64.
+    pub workers: u32,
+    /// M, 1 to 256.
+    pub items: u32,
+    /// N, 1 to 4,096.
+    pub nodes: u32,
+    /// Q, 1 to 256.
+    pub projects: u32,
+    /// C, 1 to 4,294,967,294.
+    pub counter: u32,
+}
+
+impl Sizes {
+    /// How many words a catalogue of these sizes needs.
+    pub fn words(&self) -> usize {
+        16 + 16 * self.workers as usize + 4 * self.items as usize + 3 * self.nodes as usize
+    }
+}
+
+/// A refusal, by document 01's number. Steps are 0 but where 11 or 12 ended an operation in a step.
+#[derive(Clone, Copy, Debug, PartialEq, Eq)]
+pub struct Refused {
+    /// 1 to 12.
+    pub number: u32,
+    /// The operation's steps, where this refusal ended it.
+    pub steps: u64,
+}
+
+impl std::fmt::Display for Refused {
+    fn fmt(&self, f: &mut std::fmt::Formatter<'_>) -> std::fmt::Result {
+        write!(f, "refused with number {}", self.number)
+    }
+}
+
+impl std::error::Error for Refused {}
+
+/// What a step came to.
+#[derive(Clone, Copy, Debug, PartialEq, Eq)]
+pub enum Step {
+    /// The operation goes on; so many steps were taken.
+    Running {
+        /// Steps so far, this one included.
+        steps: u64,
+    },
+    /// The operation answered.
+    Finished {
+        /// What it answers.
+        value: u64,
+        /// Its steps, this one included.
+        steps: u64,
+    },
+}
+
+/// Words lent to a catalogue. The exclusive borrow is the host's duty that calls come one after the other.
+#[derive(Debug)]
+pub struct Catalogue<'w> {
+    words: &'w mut [u32],
+}
+
+impl<'w> Catalogue<'w> {
+    /// A fresh catalogue in these words, whatever they held.
+    pub fn make(words: &'w mut [u32], sizes: Sizes) -> Result<Self, Refused> {
+        let mut catalogue = Catalogue { words };
+        let Sizes { workers, items, nodes, projects, counter } = sizes;
+        catalogue.call(|w, n, a| unsafe { ffi::goravesha_make(w, n, workers, items, nodes, projects, counter, a) })?;
+        Ok(catalogue)
+    }
+
+    /// The catalogue that stands in these words already; where none does, its calls are refused with 2.
+    pub fn over(words: &'w mut [u32]) -> Self {
+        Catalogue { words }
+    }
+
+    /// The lent words, to look at.
+    pub fn words(&self) -> &[u32] {
+        self.words
+    }
+
+    /// A new item; its number.
+    pub fn register(&mut self, value: u32, size: u32) -> Result<u32, Refused> {
+        let (_, numbers) = self.call(|w, n, a| unsafe { ffi::goravesha_register(w, n, value, size, a) })?;
+        Ok(numbers[0] as u32)
+    }
+
+    /// Starts a vRead.
+    pub fn start_vread(&mut self, worker: u32, item: u32) -> Result<(), Refused> {
+        self.call(|w, n, a| unsafe { ffi::goravesha_start_vread(w, n, worker, item, a) }).map(|_| ())
+    }
+
+    /// Starts a vCAS from project `old` to project `new`.
+    pub fn start_vcas(&mut self, worker: u32, item: u32, old: u32, new: u32) -> Result<(), Refused> {
+        self.call(|w, n, a| unsafe { ffi::goravesha_start_vcas(w, n, worker, item, old, new, a) }).map(|_| ())
+    }
+
+    /// Starts a takeSnapshot.
+    pub fn start_take_snapshot(&mut self, worker: u32) -> Result<(), Refused> {
+        self.call(|w, n, a| unsafe { ffi::goravesha_start_take_snapshot(w, n, worker, a) }).map(|_| ())
+    }
+
+    /// Starts a readSnapshot.
+    pub fn start_read_snapshot(&mut self, worker: u32, item: u32, handle: u32) -> Result<(), Refused> {
+        self.call(|w, n, a| unsafe { ffi::goravesha_start_read_snapshot(w, n, worker, item, handle, a) }).map(|_| ())
+    }
+
+    /// Starts a total.
+    pub fn start_total(&mut self, worker: u32, project: u32, handle: u32) -> Result<(), Refused> {
+        self.call(|w, n, a| unsafe { ffi::goravesha_start_total(w, n, worker, project, handle, a) }).map(|_| ())
+    }
+
+    /// One step of a worker.
+    pub fn step(&mut self, worker: u32) -> Result<Step, Refused> {
+        let (code, [value, steps, ..]) = self.call(|w, n, a| unsafe { ffi::goravesha_step(w, n, worker, a) })?;
+        Ok(if code == 0 { Step::Finished { value, steps } } else { Step::Running { steps } })
+    }
+
+    /// Steps of a worker until its operation answers: the value and the steps.
+    pub fn finish(&mut self, worker: u32) -> Result<(u64, u64), Refused> {
+        loop {
+            if let Step::Finished { value, steps } = self.step(worker)? {
+                return Ok((value, steps));
+            }
+        }
+    }
+
+    // Safe: the pointer and the count are those of an exclusive slice, and the answer's numbers are apart from it.
+    fn call(&mut self, call: impl FnOnce(*mut u32, usize, *mut ffi::Numbers) -> u32) -> Result<(u32, ffi::Numbers), Refused> {
+        let mut numbers = [0; 4];
+        let code = call(self.words.as_mut_ptr(), self.words.len(), &mut numbers);
+        if code >= 16 {
+            return Err(Refused { number: code - 16, steps: numbers[1] });
+        }
+        Ok((code, numbers))
+    }
+}

@@ -1,0 +1,75 @@
+// The wrapper: document 01's listing, some of its runs, and words that are no catalogue.
+use goravesha::{Catalogue, Refused, Sizes, Step};
+
+const SIZES: Sizes = Sizes { workers: 2, items: 2, nodes: 8, projects: 4, counter: 16 };
+
+fn refused<T>(number: u32) -> Result<T, Refused> {
+    Err(Refused { number, steps: 0 })
+}
+
+#[test]
+fn the_listing() {
+    let mut words = vec![7; SIZES.words()];
+    let mut c = Catalogue::make(&mut words, SIZES).unwrap();
+    assert_eq!(c.register(1, 100), Ok(0));
+    c.start_take_snapshot(0).unwrap();
+    assert_eq!(c.step(0), Ok(Step::Running { steps: 1 }));
+    assert_eq!(c.step(0), Ok(Step::Finished { value: 0, steps: 2 }));
+    c.start_vcas(1, 0, 1, 2).unwrap();
+    for steps in 1..=5 {
+        assert_eq!(c.step(1), Ok(Step::Running { steps }));
+    }
+    c.start_read_snapshot(0, 0, 0).unwrap();
+    assert_eq!(c.finish(0), Ok((1, 6)));
+}
+
+#[test]
+fn a_total_and_the_same_again() {
+    let mut words = vec![0; SIZES.words()];
+    let mut c = Catalogue::make(&mut words, SIZES).unwrap();
+    c.register(1, 100).unwrap();
+    c.register(1, u32::MAX).unwrap();
+    c.start_take_snapshot(0).unwrap();
+    let (handle, _) = c.finish(0).unwrap();
+    c.start_total(0, 1, handle as u32).unwrap();
+    assert_eq!(c.finish(0), Ok((100 + u64::from(u32::MAX), 7)));
+    c.start_vcas(1, 0, 1, 2).unwrap();
+    assert_eq!(c.finish(1), Ok((1, 9)));
+    c.start_total(0, 1, handle as u32).unwrap();
+    assert_eq!(c.finish(0), Ok((100 + u64::from(u32::MAX), 8)));
+    c.start_vread(0, 0).unwrap();
+    assert_eq!(c.finish(0), Ok((2, 3)));
+}
+
+#[test]
+fn refusals() {
+    let mut words = vec![0; SIZES.words()];
+    assert!(matches!(Catalogue::make(&mut words[1..], SIZES), Err(Refused { number: 1, steps: 0 })));
+    let mut c = Catalogue::make(&mut words, Sizes { nodes: 1, counter: 1, ..SIZES }).unwrap();
+    assert_eq!(c.step(0), refused(5));
+    assert_eq!(c.step(2), refused(3));
+    assert_eq!(c.start_vread(0, 0), refused(6));
+    assert_eq!(c.register(4, 1), refused(7));
+    assert_eq!(c.register(1, 1), Ok(0));
+    assert_eq!(c.register(1, 1), refused(11));
+    assert_eq!(c.start_total(0, 1, 0), refused(8));
+    c.start_vcas(0, 0, 1, 2).unwrap();
+    assert_eq!(c.start_vread(0, 0), refused(4));
+    assert_eq!(c.finish(0), Err(Refused { number: 11, steps: 4 }));
+    c.start_take_snapshot(1).unwrap();
+    assert_eq!(c.finish(1), Ok((0, 2)));
+    c.start_take_snapshot(1).unwrap();
+    assert_eq!(c.finish(1), Err(Refused { number: 12, steps: 1 }));
+    assert_eq!(c.start_read_snapshot(0, 0, 1), refused(8));
+}
+
+#[test]
+fn words_that_are_no_catalogue() {
+    for length in [0, 1, 15, 16, 100] {
+        let mut words = vec![u32::MAX; length];
+        let mut c = Catalogue::over(&mut words);
+        assert_eq!(c.register(0, 0), refused(2));
+        assert_eq!(c.step(0), refused(2));
+        assert!(words.iter().all(|word| *word == u32::MAX));
+    }
+}

@@ -1,0 +1,14 @@
+#!/usr/bin/env bash
+# The hostile test, for so many seconds (30 unless said), with so many as its seed; and shorter runs of it with the sanitizers and under valgrind.
+# A long run: bash tests/hostile.sh 600 7
+set -eu
+cd "$(dirname "$0")/.."
+seconds=${1:-30}
+seed=${2:-1}
+CFLAGS="-g -fsanitize=address,undefined -fno-sanitize-recover=all" bash host/build.sh hostile oracle tables
+target/host/hostile -s 4 -x "$seed" > target/host/hostile.sanitized || { tail -n 40 target/host/hostile.sanitized; exit 1; }
+CFLAGS=-g bash host/build.sh hostile oracle tables
+if command -v valgrind > /dev/null; then
+  valgrind -q --error-exitcode=9 target/host/hostile -n 400000 -x "$seed" > target/host/hostile.valgrind || { tail -n 40 target/host/hostile.valgrind; exit 1; }
+fi
+target/host/hostile -s "$seconds" -x "$seed"
