@@ -43,12 +43,12 @@ static uint32_t call(int which, size_t count, goravesha_answer *answer) {
   }
 }
 
-/* A call must answer this code, value 0, steps 0, and change no word. */
+/* A call must answer this code, value 0, steps 0, and, where it is refused, change no word. */
 static void expect(const char *what, int which, size_t count, uint32_t code) {
   goravesha_answer answer = {7, 7, 7, 7};
   memcpy(kept, words, sizeof words);
   uint32_t got = call(which, count, &answer);
-  if (got != code || answer[0] || answer[1] || answer[2] || answer[3] || memcmp(kept, words, sizeof words)) {
+  if (got != code || answer[0] || answer[1] || answer[2] || answer[3] || (code >= GORAVESHA_REFUSED && memcmp(kept, words, sizeof words))) {
     fprintf(stderr, "page: %s: call %d with %zu words answered %u (expected %u), or changed a word\n", what, which, count, got, code);
     wrong++;
   }
@@ -87,10 +87,18 @@ int main(void) {
   }
   expect_make(count - 1, 2, 2, 8, 4, 16, GORAVESHA_REFUSED + 1);
 
-  /* Each header word at 0, at its limit and one past it: sizes with their own limits, the rest with the limits that the header gives. */
+  /* Each header word at 0, at its limit and one past it: sizes with their own limits, the rest with the limits that the header gives. A P, M or N at
+     its limit asks for more words than are lent here. What is accepted is no damage; 'accepted' stands for a call that changes words. */
+  enum { ok = GORAVESHA_ACCEPTED, no2 = 18, no5 = 21, no6 = 22, no8 = 24, no10 = 26, no11 = 27 };
   static const uint32_t limit[9] = {64, 256, 4096, 256, 4294967294u, 16, 2, 8, 0};
-  static const int zero_is_damage[9] = {1, 1, 1, 1, 1, 0, 0, 0, 0};
-  /* What each call answers on a fresh catalogue of no items: register accepted, 6, 6, accepted, 6, 8, 5. */
+  static const uint32_t at_zero[9][CALLS] = {
+      {no2, no2, no2, no2, no2, no2, no2}, {no2, no2, no2, no2, no2, no2, no2}, {no2, no2, no2, no2, no2, no2, no2},
+      {no2, no2, no2, no2, no2, no2, no2}, {no2, no2, no2, no2, no2, no2, no2}, {ok, no6, no6, ok, no6, no8, no5},
+      {ok, no6, no6, ok, no6, no8, no5},   {ok, no6, no6, ok, no6, no8, no5},   {ok, no6, no6, ok, no6, no8, no5}};
+  static const uint32_t at_limit[9][CALLS] = {
+      {no2, no2, no2, no2, no2, no2, no2}, {no2, no2, no2, no2, no2, no2, no2},  {no2, no2, no2, no2, no2, no2, no2},
+      {ok, no6, no6, ok, no6, no8, no5},   {ok, no6, no6, ok, no6, no8, no5},    {ok, no6, no6, ok, no6, ok, no5},
+      {no10, no2, no2, ok, no2, no8, no5}, {no11, no6, no6, ok, no6, no8, no5}, {ok, no6, no6, ok, no6, no8, no5}};
   for (int word = 0; word < 9; word++) {
     for (int which = 0; which < CALLS; which++) {
       fresh(count);
@@ -98,13 +106,10 @@ int main(void) {
       expect("past the limit", which, count, damaged);
       fresh(count);
       words[word] = 0;
-      if (zero_is_damage[word]) expect("zero", which, count, damaged);
-      /* At its limit a size asks for more words than are lent here, where it counts words; the others are no damage. */
+      expect("zero", which, count, at_zero[word][which]);
       fresh(count);
       words[word] = limit[word];
-      if (word < 3) expect("at the limit", which, count, damaged);
-      else if (which == 1) expect("at the limit", which, count, word == 6 ? damaged : GORAVESHA_REFUSED + 6);
-      else if (which == 6) expect("at the limit", which, count, GORAVESHA_REFUSED + 5);
+      expect("at the limit", which, count, at_limit[word][which]);
     }
   }
 

@@ -7,6 +7,7 @@ use Prim.Native.Nat.{ℕ, zero, suc, _*_, _≤_, _<_}
 use native.Mathlib.Omega.{arith}
 use lib.ListN.{getD}
 use Rattle.definitions.specs.Calls.{Call}
+use Rattle.history.specs.Tools.{Split, split}
 use Rattle.history.specs.Definition1.{Operation, register, v-read, v-cas, take-snapshot, read-snapshot, total, Act, Legal}
 use Rattle.history.specs.Notes.{Note}
 use Rattle.history.specs.Notes as Notes
@@ -16,9 +17,9 @@ use Rattle.history.specs.Statements as Told
 use Rattle.history.specs.Machine.{Limits, Catalogue, after-calls}
 use Rattle.history.specs.Places.{asked-for, Invariant}
 use Rattle.history.specs.Run.{run-right}
-use Rattle.history.specs.Instants.{head-instant, change-instant, loss-instant}
+use Rattle.history.specs.Instants.{stamped-first, head-instant, change-instant, loss-instant}
 use Rattle.history.specs.Moments.{Moments, moments}
-use Rattle.history.specs.Immediately.{right-after}
+use Rattle.history.specs.Immediately.{same-event, right-after}
 use Rattle.history.specs.OneOrder.{time-of, Pending, Within, inside, in-call, OneOrder}
 use Rattle.history.specs.OrderShown.{operation-tag}
 use Rattle.history.specs.OrderList.{order-to}
@@ -82,12 +83,31 @@ module _ (s : Catalogue) (invariant : Invariant s) (run : List Note) (T : Traced
               (subst (λ (o : ℕ). ChangeInstant run o (P .i) (s .memory .item (P .i) .effect-at (suc j))) (ap (s .memory .item (P .i) .author) (sym e)
                   ∙ P .mine) (change-instant s invariant run T (P .i) j (omega (arith, P .valid)))) }
 
+  -- a change that the run tells of is a version with its stamp, whose author stands in the order
+  effective : (o i τ : ℕ) → ChangeInstant run o i τ → Told.In o (has-one-order s invariant .order)
+  effective o i τ C =
+      subst (λ (q : ℕ). Told.In q (has-one-order s invariant .order)) (sym mine) (has-one-order s invariant .changed i (suc (P .0)) (stamped (split (suc (P .0)) (s .memory .item i .valid))))
+    where
+      P : (j : ℕ) × (suc j < s .memory .item i .versions) × (C .p ≡ s .memory .item i .published-at (suc j))
+      P = T .memory .publishes-only o i (C .v) (C .p) (C .published)
+      Q : (j : ℕ) × (suc j < s .memory .item i .valid) × (C .s ≡ s .memory .item i .stamped-at (suc j))
+      Q = T .memory .stamps-only (C .stamped .o) i (C .stamped .v) (C .s) (C .stamped .stored)
+      mine : o ≡ s .memory .item i .author (suc (P .0))
+      mine = same-event run (C .published)
+          (subst (λ (t : ℕ). Executed run (s .memory .item i .author (suc (P .0))) 46 (Notes.publishes i (s .memory .item i .value (suc (P .0)))) t) (sym (P .2))
+          (T .memory .published i (P .0) (P .1))) .2
+      stamped : Split (suc (P .0)) (s .memory .item i .valid) → suc (P .0) < s .memory .item i .valid
+      stamped (Split.less p) = p
+      stamped (Split.more q) =
+          absurd (omega (arith, stamped-first (invariant .kept .memory) i (suc (Q .0)) (suc (P .0)) (omega (arith, Q .1)) (P .1), P .2, Q .2, C .stamped .after))
+
   told : Agrees s run → Moments s run → Told.OneOrder run
   told A M =
       record {
         order = has-one-order s invariant .order; time = has-one-order s invariant .time; answer = has-one-order s invariant .answer;
             once = has-one-order s invariant .once; falling = has-one-order s invariant .falling;
         all = λ o b d. has-one-order s invariant .all o (omega (arith, A .now)) (sym (ap (λ (f : Fate). f .done) (A .fate o)) ∙ d);
+        effective = effective;
         only = λ o i. only o (has-one-order s invariant .only o i);
         within = λ o i. within o (has-one-order s invariant .within o i);
         instants = λ o b d. instant o (sym (ap (λ (f : Fate). f .done) (A .fate o)) ∙ d);

@@ -159,6 +159,8 @@ pub record OneOrder (run : List Note) : Type 0 where
   pub answer : ℕ → ℕ
   pub once : Once order
   pub all : (o : ℕ) → o < length run → Finished run o → In o order
+  -- and so is every change that has taken effect, finished or not
+  pub effective : (o i τ : ℕ) → ChangeInstant run o i τ → In o order
   pub only : (o : ℕ) → In o order → (Finished run o) ⊎ Pending run o (time o)
   pub within : (o : ℕ) → In o order → Within (fate-of run o) o (time o)
   pub falling : Falling time order
