@@ -94,9 +94,10 @@ fn one_row(tally: &[u64], text: &[u8], from: usize, which: u32) {
     line(b": ", get(tally, place(from, which, 36)));
 }
 
-fn rows(tally: &[u64], text: &[u8], from: usize, some: u32) {
-    let mut which: u32 = 0;
-    while which < some {
+// The counts from a first up to a last, that one left out.
+fn rows(tally: &[u64], text: &[u8], from: usize, first: u32, last: u32) {
+    let mut which = first;
+    while which < last {
         one_row(tally, text, from, which);
         which += 1;
     }
@@ -128,13 +129,18 @@ fn coverage(tally: &[u64]) {
     line(b"refusals met, of 12: ", counted(tally, REFUSALS, 16));
 }
 
+// The report; where its end can't be written, a word on standard error says so.
 pub fn report(tally: &[u64]) {
     summary(tally);
     coverage(tally);
     longest(tally);
-    rows(tally, b"refusal ", REFUSALS, 13);
-    rows(tally, b"phase ", PHASES, 36);
+    rows(tally, b"refusal ", REFUSALS, 1, 13);
+    rows(tally, b"phase ", PHASES, 0, 36);
     moves(tally);
+    let is_written = io::write_all(STDOUT_FILENO, b"end of the report\n");
+    if !is_written {
+        os::fail(b"soak: standard output");
+    }
 }
 
 // The line of a long run on standard error.

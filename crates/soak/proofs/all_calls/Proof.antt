@@ -1,4 +1,4 @@
--- `soak::all_calls` is safe and ends. The measure is what is left to count down. Assumes nothing.
+-- `soak::all_calls` is safe and ends. The measure is what is left to count. Assumes nothing.
 use borrow.Author.Needs.{needs}
 use lib.ListN.{length}
 use mathlib.Core.Path.{_≡_}

@@ -1,7 +1,7 @@
--- `soak::number_in` is safe and ends. The measure is what is left to count down. Assumes nothing.
+-- `soak::number_in` is safe and ends. The measure is what is left to count. Assumes nothing.
 use borrow.Author.Needs.{needs}
 use lib.ListN.{length}
-use Prim.Native.Nat.{_-_, _≤_, _<_, _+_}
+use Prim.Native.Nat.{_-_}
 use Rattle.soak.proofs.number_in.Statement.{statement}
 use Rattle.soak.proofs.number_in.Tie as tie
 

@@ -1,4 +1,4 @@
--- `model::memory::count_above` is safe and ends. The measure is what is left to count down. Assumes nothing.
+-- `model::memory::count_above` is safe and ends. The measure is what is left to count. Assumes nothing.
 use borrow.Author.Needs.{needs}
 use Rattle.model.proofs.memory.count_above.Statement.{statement}
 use Rattle.model.proofs.memory.count_above.Tie as tie

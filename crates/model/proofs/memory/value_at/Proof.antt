@@ -1,4 +1,4 @@
--- `model::memory::value_at` is safe and ends. The measure is what is left to count down. Assumes nothing.
+-- `model::memory::value_at` is safe and ends. The measure is what is left to count. Assumes nothing.
 use borrow.Author.Needs.{needs}
 use Rattle.model.proofs.memory.value_at.Statement.{statement}
 use Rattle.model.proofs.memory.value_at.Tie as tie

@@ -1,6 +1,6 @@
--- `soak::frames::show_arguments` is safe and ends. The measure is what is left to count down. Assumes nothing.
+-- `soak::frames::show_arguments` is safe and ends. The measure is what is left to count. Assumes nothing.
 use borrow.Author.Needs.{needs}
-use Prim.Native.Nat.{_-_, _≤_, _<_, _+_}
+use Prim.Native.Nat.{_-_}
 use Rattle.soak.proofs.frames.show_arguments.Statement.{statement}
 use Rattle.soak.proofs.frames.show_arguments.Tie as tie
 

@@ -1,4 +1,4 @@
--- `soak::report::counted` is safe and ends. The measure is what is left to count down. Assumes nothing.
+-- `soak::report::counted` is safe and ends. The measure is what is left to count. Assumes nothing.
 use borrow.Author.Needs.{needs}
 use Rattle.soak.proofs.report.counted.Statement.{statement}
 use Rattle.soak.proofs.report.counted.Tie as tie

@@ -1,6 +1,6 @@
--- `soak::report::moves` is safe and ends. The measure is what is left to count down. Assumes nothing.
+-- `soak::report::moves` is safe and ends. The measure is what is left to count. Assumes nothing.
 use borrow.Author.Needs.{needs}
-use Prim.Native.Nat.{_-_, _≤_, _<_, _+_}
+use Prim.Native.Nat.{_-_}
 use Rattle.soak.proofs.report.moves.Statement.{statement}
 use Rattle.soak.proofs.report.moves.Tie as tie
 

@@ -1,4 +1,4 @@
--- `soak::report::moves_met` is safe and ends. The measure is what is left to count down. Assumes nothing.
+-- `soak::report::moves_met` is safe and ends. The measure is what is left to count. Assumes nothing.
 use borrow.Author.Needs.{needs}
 use Rattle.soak.proofs.report.moves_met.Statement.{statement}
 use Rattle.soak.proofs.report.moves_met.Tie as tie

@@ -1,14 +1,14 @@
--- `soak::report::rows` is safe and ends. The measure is what is left to count down. Assumes nothing.
+-- `soak::report::rows` is safe and ends. The measure is what is left to count. Assumes nothing.
 use borrow.Author.Needs.{needs}
-use Prim.Native.Nat.{_-_, _≤_, _<_, _+_}
+use Prim.Native.Nat.{_-_}
 use Rattle.soak.proofs.report.rows.Statement.{statement}
 use Rattle.soak.proofs.report.rows.Tie as tie
 
 abbrev Inv-loop : tie.InvT-loop
-Inv-loop tally text from some which₀ which = Unit {0}
+Inv-loop tally text from first last which₀ which = Unit {0}
 
 abbrev μ-loop : tie.MeasureT-loop
-μ-loop tally text from some which₀ which = some - which
+μ-loop tally text from first last which₀ which = last - which
 
 loop-holds : tie.Need-loop-holds Inv-loop μ-loop
 loop-holds c = search needs
