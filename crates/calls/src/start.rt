@@ -4,7 +4,9 @@ use lines::endings::{refuse, write_record};
 use tables::damage::{header_is_damaged, item_is_damaged, worker_is_damaged};
 use tables::fields::{BIRTH, COUNTER, HEADER_WORDS, ITEMS, ITEM_WORDS, PHASE, PROJECTS, WORKERS, WORKER_WORDS};
 ghost use mathlib.Core.Path.{_≡_};
+ghost use mathlib.Core.Bool.{not};
 ghost use Prim.Native.Nat.{ℕ, _<_};
+ghost use lib.Dec.{eqb};
 ghost use Rattle.definitions.specs.Answers.{accepted};
 ghost use Rattle.definitions.specs.Cells.{cells-of};
 ghost use Rattle.definitions.specs.Calls.{outcome, sound-item};
@@ -33,6 +35,23 @@ fn worker_refusal(words: &[u32], worker: u32) -> u32
     0
 }
 
+// Some refusal of those holds: the worker is not there and idle in a sound catalogue. A start asks this first, and for the number only then.
+fn is_held(words: &[u32], worker: u32) -> bool
+    ensures { λ r. ⌜ r ≡ not (eqb (first-of (worker-refusals (now (words .entry)) worker)) 0) ⌝ }
+{
+    if header_is_damaged(words) {
+        return true;
+    }
+    if words[WORKERS] <= worker {
+        return true;
+    }
+    let w = worker as usize;
+    if words[HEADER_WORDS + WORKER_WORDS * w + PHASE] != 0 {
+        return true;
+    }
+    false
+}
+
 // The first refusal that an item's number and record give; 0 where there is none.
 fn item_refusal(words: &[u32], item: u32) -> u32
     requires { ⌜ Header (now words) ⌝ }
@@ -57,8 +76,8 @@ fn accept(value: u64) -> Answer
 pub fn start_vread(words: &mut [u32], worker: u32, item: u32) -> Answer
     ensures { λ r. ⌜ Done (outcome (now (words .entry)) (v-read worker item)) r (now (words .exit)) ⌝ }
 {
-    let number = worker_refusal(words, worker);
-    if number != 0 {
+    if is_held(words, worker) {
+        let number = worker_refusal(words, worker);
         return refuse(number);
     }
     let item_number = item_refusal(words, item);
@@ -72,8 +91,8 @@ pub fn start_vread(words: &mut [u32], worker: u32, item: u32) -> Answer
 pub fn start_vcas(words: &mut [u32], worker: u32, item: u32, old: u32, new: u32) -> Answer
     ensures { λ r. ⌜ Done (outcome (now (words .entry)) (v-cas worker item old new)) r (now (words .exit)) ⌝ }
 {
-    let number = worker_refusal(words, worker);
-    if number != 0 {
+    if is_held(words, worker) {
+        let number = worker_refusal(words, worker);
         return refuse(number);
     }
     let item_number = item_refusal(words, item);
@@ -90,8 +109,8 @@ pub fn start_vcas(words: &mut [u32], worker: u32, item: u32, old: u32, new: u32)
 pub fn start_take_snapshot(words: &mut [u32], worker: u32) -> Answer
     ensures { λ r. ⌜ Done (outcome (now (words .entry)) (take-snapshot worker)) r (now (words .exit)) ⌝ }
 {
-    let number = worker_refusal(words, worker);
-    if number != 0 {
+    if is_held(words, worker) {
+        let number = worker_refusal(words, worker);
         return refuse(number);
     }
     write_record(words, worker as usize, 23, 0, 0, 0, 0, 0, 0);
@@ -101,8 +120,8 @@ pub fn start_take_snapshot(words: &mut [u32], worker: u32) -> Answer
 pub fn start_read_snapshot(words: &mut [u32], worker: u32, item: u32, handle: u32) -> Answer
     ensures { λ r. ⌜ Done (outcome (now (words .entry)) (read-snapshot worker item handle)) r (now (words .exit)) ⌝ }
 {
-    let number = worker_refusal(words, worker);
-    if number != 0 {
+    if is_held(words, worker) {
+        let number = worker_refusal(words, worker);
         return refuse(number);
     }
     let item_number = item_refusal(words, item);
@@ -124,8 +143,8 @@ pub fn start_read_snapshot(words: &mut [u32], worker: u32, item: u32, handle: u3
 pub fn start_total(words: &mut [u32], worker: u32, project: u32, handle: u32) -> Answer
     ensures { λ r. ⌜ Done (outcome (now (words .entry)) (total worker project handle)) r (now (words .exit)) ⌝ }
 {
-    let number = worker_refusal(words, worker);
-    if number != 0 {
+    if is_held(words, worker) {
+        let number = worker_refusal(words, worker);
         return refuse(number);
     }
     if words[PROJECTS] <= project {

@@ -2,7 +2,7 @@
 use crate::dispatch::run_row;
 use definitions::{Answer, PhaseRow};
 use lines::endings::refuse;
-use tables::damage::{header_is_damaged, item_is_damaged, running_is_damaged};
+use tables::damage::{header_is_damaged, item_is_damaged, step_is_damaged};
 use tables::fields::{HEADER_WORDS, ITEM, ITEMS_LIMIT, ITEM_WORDS, PHASE, WORKERS, WORKER_WORDS};
 use tables::phases::row_at;
 ghost use mathlib.Core.Path.{_≡_};
@@ -63,7 +63,7 @@ fn step_sound(words: &mut [u32], worker: u32) -> Answer
         return refuse(5);
     }
     let row = row_at(phase as usize);
-    if running_is_damaged(words, w, row) {
+    if step_is_damaged(words, w, row) {
         return refuse(2);
     }
     step_busy(words, w, row)

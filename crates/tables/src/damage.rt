@@ -87,12 +87,16 @@ fn arguments_are_damaged(words: &[u32], w: usize, row: PhaseRow) -> bool
     if row.operation == 4 {
         return (words[ITEMS] <= words[at + ITEM]) | (words[COUNTER] <= words[at + HANDLE]);
     }
-    (words[PROJECTS] <= words[at + PROJECT])
-        | (words[COUNTER] <= words[at + HANDLE])
-        | (words[ITEMS] < words[at + NOTED])
-        | (words[at + NOTED] < words[at + ITEM])
-        | (((row.operation != 3) & (row.line != 0)) & (words[at + NOTED] <= words[at + ITEM]))
-        | (1099511627776 < sum_of(words[at + SUM_HIGH], words[at + SUM_LOW]))
+    if (words[PROJECTS] <= words[at + PROJECT]) | (words[COUNTER] <= words[at + HANDLE]) {
+        return true;
+    }
+    if (words[ITEMS] < words[at + NOTED]) | (words[at + NOTED] < words[at + ITEM]) {
+        return true;
+    }
+    if ((row.operation != 3) & (row.line != 0)) & (words[at + NOTED] <= words[at + ITEM]) {
+        return true;
+    }
+    1099511627776 < sum_of(words[at + SUM_HIGH], words[at + SUM_LOW])
 }
 
 // What the record keeps for its lines.
@@ -109,6 +113,28 @@ fn kept_is_damaged(words: &[u32], w: usize, row: PhaseRow) -> bool
         | ((line == 6) & (words[COUNTER_LIMIT] <= words[at + SEEN]))
 }
 
+// The same, by line: for step, where it is asked at each call.
+fn kept_at_line_is_damaged(words: &[u32], w: usize, row: PhaseRow) -> bool
+    requires { ⌜ 16 + 16 * w + 16 ≤ length (now words) ⌝ }
+    ensures { λ r. ⌜ ((a b : ℕ) → r ≡ kept-damaged row (cells-at a b (now (words .entry))) w) ⌝ }
+{
+    let at = HEADER_WORDS + WORKER_WORDS * w;
+    let line = row.line;
+    match line {
+        20 => words[USED] <= words[at + NODE],
+        21 => words[USED] <= words[at + NODE],
+        22 => (words[USED] <= words[at + NODE]) | (words[COUNTER] < words[at + SEEN]),
+        34 => words[USED] <= words[at + NODE],
+        39 => words[USED] <= words[at + NODE],
+        43 => words[USED] <= words[at + NODE],
+        45 => words[USED] <= words[at + NODE],
+        46 => (words[USED] <= words[at + NODE]) | (words[USED] <= words[at + NEW_NODE]),
+        50 => words[USED] <= words[at + NEW_NODE],
+        6 => words[COUNTER_LIMIT] <= words[at + SEEN],
+        _ => false,
+    }
+}
+
 // A running record, at the table's entry for its phase.
 pub fn running_is_damaged(words: &[u32], w: usize, row: PhaseRow) -> bool
     requires { ⌜ 16 + 16 * w + 16 ≤ length (now words) ⌝ }
@@ -116,6 +142,21 @@ pub fn running_is_damaged(words: &[u32], w: usize, row: PhaseRow) -> bool
 {
     let at = HEADER_WORDS + WORKER_WORDS * w;
     (5120 < words[at + STEPS]) | arguments_are_damaged(words, w, row) | kept_is_damaged(words, w, row)
+}
+
+// The same test as step asks it: with branches, and called from nowhere else, so that it stands in step's own code.
+pub fn step_is_damaged(words: &[u32], w: usize, row: PhaseRow) -> bool
+    requires { ⌜ 16 + 16 * w + 16 ≤ length (now words) ⌝ }
+    ensures { λ r. ⌜ ((a b : ℕ) → r ≡ running-damaged row (cells-at a b (now (words .entry))) w) ⌝ }
+{
+    let at = HEADER_WORDS + WORKER_WORDS * w;
+    if 5120 < words[at + STEPS] {
+        return true;
+    }
+    if arguments_are_damaged(words, w, row) {
+        return true;
+    }
+    kept_at_line_is_damaged(words, w, row)
 }
 
 // A worker's record.

@@ -4,48 +4,22 @@ ghost use mathlib.Core.Path.{_≡_};
 ghost use Prim.Native.Nat.{_<_};
 ghost use Rattle.definitions.specs.Phases.{row-of};
 
-const PHASES: [PhaseRow; 36] = [
-    PhaseRow { operation: 0, line: 0, may_answer: false },
+// An entry is 256 * operation + line, and 128 more where the phase may answer: 36 entries of two bytes, small enough to be copied at each look-up.
+const PHASES: [u16; 36] = [
+    // idle
+    256 * 0 + 0,
     // vRead
-    PhaseRow { operation: 1, line: 37, may_answer: false },
-    PhaseRow { operation: 1, line: 20, may_answer: false },
-    PhaseRow { operation: 1, line: 21, may_answer: false },
-    PhaseRow { operation: 1, line: 22, may_answer: false },
-    PhaseRow { operation: 1, line: 39, may_answer: true },
+    256 * 1 + 37, 256 * 1 + 20, 256 * 1 + 21, 256 * 1 + 22, 256 * 1 + 39 + 128,
     // vCAS
-    PhaseRow { operation: 2, line: 41, may_answer: false },
-    PhaseRow { operation: 2, line: 20, may_answer: false },
-    PhaseRow { operation: 2, line: 21, may_answer: false },
-    PhaseRow { operation: 2, line: 22, may_answer: false },
-    PhaseRow { operation: 2, line: 43, may_answer: true },
-    PhaseRow { operation: 2, line: 45, may_answer: false },
-    PhaseRow { operation: 2, line: 46, may_answer: false },
-    PhaseRow { operation: 2, line: 20, may_answer: false },
-    PhaseRow { operation: 2, line: 21, may_answer: false },
-    PhaseRow { operation: 2, line: 22, may_answer: false },
-    PhaseRow { operation: 2, line: 48, may_answer: true },
-    PhaseRow { operation: 2, line: 50, may_answer: false },
-    PhaseRow { operation: 2, line: 51, may_answer: false },
-    PhaseRow { operation: 2, line: 20, may_answer: false },
-    PhaseRow { operation: 2, line: 21, may_answer: false },
-    PhaseRow { operation: 2, line: 22, may_answer: false },
-    PhaseRow { operation: 2, line: 52, may_answer: true },
+    256 * 2 + 41, 256 * 2 + 20, 256 * 2 + 21, 256 * 2 + 22, 256 * 2 + 43 + 128, 256 * 2 + 45,
+    256 * 2 + 46, 256 * 2 + 20, 256 * 2 + 21, 256 * 2 + 22, 256 * 2 + 48 + 128, 256 * 2 + 50,
+    256 * 2 + 51, 256 * 2 + 20, 256 * 2 + 21, 256 * 2 + 22, 256 * 2 + 52 + 128,
     // takeSnapshot
-    PhaseRow { operation: 3, line: 5, may_answer: false },
-    PhaseRow { operation: 3, line: 6, may_answer: true },
+    256 * 3 + 5, 256 * 3 + 6 + 128,
     // readSnapshot
-    PhaseRow { operation: 4, line: 32, may_answer: false },
-    PhaseRow { operation: 4, line: 20, may_answer: false },
-    PhaseRow { operation: 4, line: 21, may_answer: false },
-    PhaseRow { operation: 4, line: 22, may_answer: false },
-    PhaseRow { operation: 4, line: 34, may_answer: true },
+    256 * 4 + 32, 256 * 4 + 20, 256 * 4 + 21, 256 * 4 + 22, 256 * 4 + 34 + 128,
     // total
-    PhaseRow { operation: 5, line: 32, may_answer: false },
-    PhaseRow { operation: 5, line: 20, may_answer: false },
-    PhaseRow { operation: 5, line: 21, may_answer: false },
-    PhaseRow { operation: 5, line: 22, may_answer: false },
-    PhaseRow { operation: 5, line: 34, may_answer: false },
-    PhaseRow { operation: 5, line: 0, may_answer: true },
+    256 * 5 + 32, 256 * 5 + 20, 256 * 5 + 21, 256 * 5 + 22, 256 * 5 + 34, 256 * 5 + 0 + 128,
 ];
 
 // The table's entry at a phase that is known.
@@ -53,5 +27,8 @@ pub fn row_at(phase: usize) -> PhaseRow
     requires { ⌜ phase < 36 ⌝ }
     ensures { λ r. ⌜ r ≡ row-of phase ⌝ }
 {
-    PHASES[phase]
+    let entry = PHASES[phase];
+    let operation = ((entry / 256) % 8) as u8;
+    let line = (entry % 128) as u8;
+    PhaseRow { operation, line, may_answer: (entry / 128) % 2 == 1 }
 }

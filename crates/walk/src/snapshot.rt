@@ -16,10 +16,13 @@ pub fn tested_is_damaged(nodes: &[u32], n: usize, handle: u32, projects: u32, us
     requires { ⌜ 3 * n + 2 < length (now nodes) ⌝ }
     ensures { λ r. ⌜ r ≡ node-tested (now (nodes .entry)) n handle projects used counter ⌝ }
 {
-    let value = nodes::word(nodes, n, VALUE);
-    let older = nodes::word(nodes, n, OLDER);
     let stamp = nodes::word(nodes, n, STAMP);
-    (counter < stamp) | ((handle < stamp) & ((older == 0) | (used < older))) | (!(handle < stamp) & (projects <= value))
+    if handle < stamp {
+        let older = nodes::word(nodes, n, OLDER);
+        return (counter < stamp) | ((older == 0) | (used < older));
+    }
+    let value = nodes::word(nodes, n, VALUE);
+    (counter < stamp) | (projects <= value)
 }
 
 // A stamp above the handle leads to the older node, in readSnapshot and in total.
@@ -49,7 +52,7 @@ pub fn line_34(words: &mut [u32], items_at: usize, nodes_at: usize, w: usize) ->
         return refuse(2);
     }
     let stamp = nodes::word(&words[nodes_at..], n, STAMP);
-    if handle < stamp {
+    if handle < stamp { // the version is too new
         return go_to_older(words, items_at, nodes_at, w);
     }
     let value = nodes::word(&words[nodes_at..], n, VALUE);

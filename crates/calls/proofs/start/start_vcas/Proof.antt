@@ -12,7 +12,7 @@ use Rattle.definitions.specs.Damage.{bad-value, bad-handle}
 use Rattle.lines.specs.Laws.{met-if, met-else, refuses}
 use Rattle.calls.specs.Refusals.{done, met-first, met-past, worker-refusals}
 use Rattle.calls.specs.Facts.{Header, header-sound}
-use Rattle.calls.specs.Starts.{here, later, header-there, worker-there, registered-item}
+use Rattle.calls.specs.Starts.{free, held, here, later, header-there, worker-there, registered-item}
 use Rattle.definitions.specs.Calls.{outcome, starting-v-cas, sound-item}
 use borrow.Author.Needs.{needs}
 use Rattle.calls.proofs.start.start_vcas.Statement.{statement}
@@ -22,6 +22,7 @@ use Rattle.calls.proofs.start.start_vcas.Lts as lts
 use Rattle.calls.proofs.start.accept.Reads as accept-reads
 use Rattle.calls.proofs.start.item_refusal.Reads as item-refusal-reads
 use Rattle.calls.proofs.start.worker_refusal.Reads as worker-refusal-reads
+use Rattle.calls.proofs.start.is_held.Reads as is-held-reads
 use Rattle.lines.proofs.endings.refuse.Reads as refuse-reads
 use Rattle.lines.proofs.endings.write_record.Reads as write-record-reads
 
@@ -30,6 +31,9 @@ values m o n = (bad-value m o || bad-value m n) ⇒ 7 ∷ []
 
 then : ℕ → ℕ → ℕ → ℕ → Outcome
 then w i o n = accepts 0 (record-of w 6 i o n 0 0 0)
+
+is-held-requires : tie.Need-is-held-requires
+is-held-requires c κs = search needs
 
 -- src/start.rt:75:9
 worker-refusal-requires : tie.Need-worker-refusal-requires
@@ -46,12 +50,12 @@ same-length c = search needs
 -- src/start.rt:77:9
 returns : tie.Need-returns
 unfolding outcome starting-v-cas values then
-returns c = let x = c .before .before .before .before .before .args in let ws = x .words .now in let m = cells-of ws in
-    done {ws = ws} (met-first (worker-refusals ws (x .worker)) (sound-item m (x .item) ++ values m (x .old) (x .new)) (then (x .worker) (x .item) (x .old) (x .new)) (c .before .before .worker-refusal .ensures .0) (c .before .if1 .taken) (c .refuse .ensures))
+returns c = let x = c .before .before .before .before .before .before .before .args in let ws = x .words .now in let m = cells-of ws in
+    done {ws = ws} (met-first (worker-refusals ws (x .worker)) (sound-item m (x .item) ++ values m (x .old) (x .new)) (then (x .worker) (x .item) (x .old) (x .new)) (c .before .worker-refusal .ensures .0) (held (c .before .before .before .before .is-held .ensures) (c .before .before .before .if1 .taken) (c .before .worker-refusal .ensures .0)) (c .refuse .ensures))
 
 -- src/start.rt:79:9
 item-refusal-requires : tie.Need-item-refusal-requires
-item-refusal-requires c κs = let x = c .before .before .before .before .before .args in header-there (x .words .now) (x .worker) (c .before .before .worker-refusal .ensures .0) (c .before .if1 .left)
+item-refusal-requires c κs = let x = c .before .before .before .before .before .args in header-there (x .words .now) (x .worker) refl (free (c .before .before .is-held .ensures) (c .before .if1 .left))
 
 -- src/start.rt:81:9
 refuse-requires-2 : tie.Need-refuse-requires-2
@@ -65,16 +69,16 @@ same-length-2 c = search needs
 returns-2 : tie.Need-returns-2
 unfolding outcome starting-v-cas values then
 returns-2 c = let x = c .before .before .before .before .before .before .before .before .args in let ws = x .words .now in let m = cells-of ws in let o = then (x .worker) (x .item) (x .old) (x .new) in
-    done {ws = ws} (met-past (worker-refusals ws (x .worker)) (sound-item m (x .item) ++ values m (x .old) (x .new)) o (c .before .before .before .before .before .worker-refusal .ensures .0) (c .before .before .before .before .if1 .left) refl
+    done {ws = ws} (met-past (worker-refusals ws (x .worker)) (sound-item m (x .item) ++ values m (x .old) (x .new)) o refl (free (c .before .before .before .before .before .is-held .ensures) (c .before .before .before .before .if1 .left)) refl
     (met-first (sound-item m (x .item)) (values m (x .old) (x .new)) o (c .before .before .item-refusal .ensures .0) (c .before .if2 .taken) (c .refuse2 .ensures)))
 
 -- src/start.rt:83:9
 slice-read-if3 : tie.Need-slice-read-if3
-slice-read-if3 c = let x = c .before .before .before .before .before .before .before .before .args in omega (arith, header-there (x .words .now) (x .worker) (c .before .before .before .before .before .worker-refusal .ensures .0) (c .before .before .before .before .if1 .left))
+slice-read-if3 c = let x = c .before .before .before .before .before .before .before .before .args in omega (arith, header-there (x .words .now) (x .worker) refl (free (c .before .before .before .before .before .is-held .ensures) (c .before .before .before .before .if1 .left)))
 
 -- src/start.rt:83:36
 slice-read-if3-2 : tie.Need-slice-read-if3-2
-slice-read-if3-2 c = let x = c .before .before .before .before .before .before .before .before .before .args in omega (arith, header-there (x .words .now) (x .worker) (c .before .before .before .before .before .before .worker-refusal .ensures .0) (c .before .before .before .before .before .if1 .left))
+slice-read-if3-2 c = let x = c .before .before .before .before .before .before .before .before .before .args in omega (arith, header-there (x .words .now) (x .worker) refl (free (c .before .before .before .before .before .before .is-held .ensures) (c .before .before .before .before .before .if1 .left)))
 
 -- src/start.rt:84:9
 refuse-requires-3 : tie.Need-refuse-requires-3
@@ -88,14 +92,14 @@ same-length-3 c = search needs
 returns-3 : tie.Need-returns-3
 unfolding outcome starting-v-cas values then
 returns-3 c = let x = c .before .before .before .before .before .before .before .before .before .before .before .args in let ws = x .words .now in let m = cells-of ws in let o = then (x .worker) (x .item) (x .old) (x .new) in
-    done {ws = ws} (met-past (worker-refusals ws (x .worker)) (sound-item m (x .item) ++ values m (x .old) (x .new)) o (c .before .before .before .before .before .before .before .before .worker-refusal .ensures .0) (c .before .before .before .before .before .before .before .if1 .left) refl
+    done {ws = ws} (met-past (worker-refusals ws (x .worker)) (sound-item m (x .item) ++ values m (x .old) (x .new)) o refl (free (c .before .before .before .before .before .before .before .before .is-held .ensures) (c .before .before .before .before .before .before .before .if1 .left)) refl
     (met-past (sound-item m (x .item)) (values m (x .old) (x .new)) o (c .before .before .before .before .before .item-refusal .ensures .0) (c .before .before .before .before .if2 .left) refl
     (met-if _ (c .before .if3 .taken) (refuses 7 (c .refuse3 .ensures)))))
 
 -- src/start.rt:86:5
 write-record-requires : tie.Need-write-record-requires
 write-record-requires c κs = let x = c .before .before .before .before .before .before .before .before .before .before .before .args in let ws = x .words .now in
-    omega (arith, header-there ws (x .worker) (c .before .before .before .before .before .before .before .before .worker-refusal .ensures .0) (c .before .before .before .before .before .before .before .if1 .left), worker-there ws (x .worker) (c .before .before .before .before .before .before .before .before .worker-refusal .ensures .0) (c .before .before .before .before .before .before .before .if1 .left))
+    omega (arith, header-there ws (x .worker) refl (free (c .before .before .before .before .before .before .before .before .is-held .ensures) (c .before .before .before .before .before .before .before .if1 .left)), worker-there ws (x .worker) refl (free (c .before .before .before .before .before .before .before .before .is-held .ensures) (c .before .before .before .before .before .before .before .if1 .left)))
 
 -- src/start.rt:87:5
 accept-requires : tie.Need-accept-requires
@@ -109,7 +113,7 @@ same-length-4 c = search needs
 returns-4 : tie.Need-returns-4
 unfolding outcome starting-v-cas values then
 returns-4 c = let x = c .before .before .before .before .before .before .before .before .before .before .before .before .before .before .before .args in let ws = x .words .now in let m = cells-of ws in let o = then (x .worker) (x .item) (x .old) (x .new) in
-    done {ws = ws} (met-past (worker-refusals ws (x .worker)) (sound-item m (x .item) ++ values m (x .old) (x .new)) o (c .before .before .before .before .before .before .before .before .before .before .before .before .worker-refusal .ensures .0) (c .before .before .before .before .before .before .before .before .before .before .before .if1 .left) refl
+    done {ws = ws} (met-past (worker-refusals ws (x .worker)) (sound-item m (x .item) ++ values m (x .old) (x .new)) o refl (free (c .before .before .before .before .before .before .before .before .before .before .before .before .is-held .ensures) (c .before .before .before .before .before .before .before .before .before .before .before .if1 .left)) refl
     (met-past (sound-item m (x .item)) (values m (x .old) (x .new)) o (c .before .before .before .before .before .before .before .before .before .item-refusal .ensures .0) (c .before .before .before .before .before .before .before .before .if2 .left) refl
     (met-else _ (c .before .before .before .before .before .if3 .left) (record { answers = c .accept .ensures; leaves = c .before .before .before .write-record .ensures }))))
 
@@ -117,6 +121,7 @@ pub start-vcas-spec : {M : Type 1} → statement M
 start-vcas-spec =
     tie.close
     (tie.spec
+    is-held-requires
     worker-refusal-requires
     refuse-requires
     same-length

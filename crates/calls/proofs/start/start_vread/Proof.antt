@@ -9,7 +9,7 @@ use Rattle.definitions.specs.Cells.{cells-at, cells-of, items-at, nodes-at, rec
 use Rattle.lines.specs.Laws.{met-if, met-else, refuses}
 use Rattle.calls.specs.Refusals.{done, met-first, met-past, worker-refusals}
 use Rattle.calls.specs.Facts.{Header, header-sound}
-use Rattle.calls.specs.Starts.{here, later, header-there, worker-there, registered-item}
+use Rattle.calls.specs.Starts.{free, held, here, later, header-there, worker-there, registered-item}
 use Rattle.definitions.specs.Answers.{accepts}
 use Rattle.definitions.specs.Calls.{outcome, starting-v-read, sound-item}
 use borrow.Author.Needs.{needs}
@@ -20,8 +20,12 @@ use Rattle.calls.proofs.start.start_vread.Lts as lts
 use Rattle.calls.proofs.start.accept.Reads as accept-reads
 use Rattle.calls.proofs.start.item_refusal.Reads as item-refusal-reads
 use Rattle.calls.proofs.start.worker_refusal.Reads as worker-refusal-reads
+use Rattle.calls.proofs.start.is_held.Reads as is-held-reads
 use Rattle.lines.proofs.endings.refuse.Reads as refuse-reads
 use Rattle.lines.proofs.endings.write_record.Reads as write-record-reads
+
+is-held-requires : tie.Need-is-held-requires
+is-held-requires c κs = search needs
 
 -- src/start.rt:60:9
 worker-refusal-requires : tie.Need-worker-refusal-requires
@@ -38,12 +42,12 @@ same-length c = search needs
 -- src/start.rt:62:9
 returns : tie.Need-returns
 unfolding outcome starting-v-read
-returns c = let x = c .before .before .before .before .before .args in let ws = x .words .now in
-    done {ws = ws} (met-first (worker-refusals ws (x .worker)) (sound-item (cells-of ws) (x .item)) (accepts 0 (record-of (x .worker) 1 (x .item) 0 0 0 0 0)) (c .before .before .worker-refusal .ensures .0) (c .before .if1 .taken) (c .refuse .ensures))
+returns c = let x = c .before .before .before .before .before .before .before .args in let ws = x .words .now in
+    done {ws = ws} (met-first (worker-refusals ws (x .worker)) (sound-item (cells-of ws) (x .item)) (accepts 0 (record-of (x .worker) 1 (x .item) 0 0 0 0 0)) (c .before .worker-refusal .ensures .0) (held (c .before .before .before .before .is-held .ensures) (c .before .before .before .if1 .taken) (c .before .worker-refusal .ensures .0)) (c .refuse .ensures))
 
 -- src/start.rt:64:9
 item-refusal-requires : tie.Need-item-refusal-requires
-item-refusal-requires c κs = let x = c .before .before .before .before .before .args in header-there (x .words .now) (x .worker) (c .before .before .worker-refusal .ensures .0) (c .before .if1 .left)
+item-refusal-requires c κs = let x = c .before .before .before .before .before .args in header-there (x .words .now) (x .worker) refl (free (c .before .before .is-held .ensures) (c .before .if1 .left))
 
 -- src/start.rt:66:9
 refuse-requires-2 : tie.Need-refuse-requires-2
@@ -57,13 +61,13 @@ same-length-2 c = search needs
 returns-2 : tie.Need-returns-2
 unfolding outcome starting-v-read
 returns-2 c = let x = c .before .before .before .before .before .before .before .before .args in let ws = x .words .now in let o = accepts 0 (record-of (x .worker) 1 (x .item) 0 0 0 0 0) in
-    done {ws = ws} (met-past (worker-refusals ws (x .worker)) (sound-item (cells-of ws) (x .item)) o (c .before .before .before .before .before .worker-refusal .ensures .0) (c .before .before .before .before .if1 .left) refl
+    done {ws = ws} (met-past (worker-refusals ws (x .worker)) (sound-item (cells-of ws) (x .item)) o refl (free (c .before .before .before .before .before .is-held .ensures) (c .before .before .before .before .if1 .left)) refl
     (met-first (sound-item (cells-of ws) (x .item)) [] o (c .before .before .item-refusal .ensures .0) (c .before .if2 .taken) (c .refuse2 .ensures)))
 
 -- src/start.rt:68:5
 write-record-requires : tie.Need-write-record-requires
 write-record-requires c κs = let x = c .before .before .before .before .before .before .before .before .args in let ws = x .words .now in
-    omega (arith, header-there ws (x .worker) (c .before .before .before .before .before .worker-refusal .ensures .0) (c .before .before .before .before .if1 .left), worker-there ws (x .worker) (c .before .before .before .before .before .worker-refusal .ensures .0) (c .before .before .before .before .if1 .left))
+    omega (arith, header-there ws (x .worker) refl (free (c .before .before .before .before .before .is-held .ensures) (c .before .before .before .before .if1 .left)), worker-there ws (x .worker) refl (free (c .before .before .before .before .before .is-held .ensures) (c .before .before .before .before .if1 .left)))
 
 -- src/start.rt:69:5
 accept-requires : tie.Need-accept-requires
@@ -77,7 +81,7 @@ same-length-3 c = search needs
 returns-3 : tie.Need-returns-3
 unfolding outcome starting-v-read
 returns-3 c = let x = c .before .before .before .before .before .before .before .before .before .before .before .before .args in let ws = x .words .now in let o = accepts 0 (record-of (x .worker) 1 (x .item) 0 0 0 0 0) in
-    done {ws = ws} (met-past (worker-refusals ws (x .worker)) (sound-item (cells-of ws) (x .item)) o (c .before .before .before .before .before .before .before .before .before .worker-refusal .ensures .0) (c .before .before .before .before .before .before .before .before .if1 .left) refl
+    done {ws = ws} (met-past (worker-refusals ws (x .worker)) (sound-item (cells-of ws) (x .item)) o refl (free (c .before .before .before .before .before .before .before .before .before .is-held .ensures) (c .before .before .before .before .before .before .before .before .if1 .left)) refl
     (met-past (sound-item (cells-of ws) (x .item)) [] o (c .before .before .before .before .before .before .item-refusal .ensures .0) (c .before .before .before .before .before .if2 .left) refl
     (record { answers = c .accept .ensures; leaves = c .before .before .before .write-record .ensures })))
 
@@ -85,6 +89,7 @@ pub start-vread-spec : {M : Type 1} → statement M
 start-vread-spec =
     tie.close
     (tie.spec
+    is-held-requires
     worker-refusal-requires
     refuse-requires
     same-length

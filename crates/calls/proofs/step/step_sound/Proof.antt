@@ -14,7 +14,7 @@ use Rattle.calls.proofs.step.step_sound.Reads as reads
 use Rattle.calls.proofs.step.step_sound.Lts as lts
 use Rattle.calls.proofs.step.step_busy.Reads as step-busy-reads
 use Rattle.lines.proofs.endings.refuse.Reads as refuse-reads
-use Rattle.tables.proofs.damage.running_is_damaged.Reads as running-is-damaged-reads
+use Rattle.tables.proofs.damage.step_is_damaged.Reads as step-is-damaged-reads
 use Rattle.tables.proofs.phases.row_at.Reads as row-at-reads
 
 -- src/step.rt:54:8
@@ -79,8 +79,8 @@ row-at-requires : tie.Need-row-at-requires
 row-at-requires c κs = search needs
 
 -- src/step.rt:66:8
-running-is-damaged-requires : tie.Need-running-is-damaged-requires
-running-is-damaged-requires c κs = search needs
+step-is-damaged-requires : tie.Need-step-is-damaged-requires
+step-is-damaged-requires c κs = search needs
 
 -- src/step.rt:67:9
 refuse-requires-4 : tie.Need-refuse-requires-4
@@ -95,12 +95,12 @@ returns-4 : tie.Need-returns-4
 unfolding stepping
 returns-4 c = let x = c .before .before .before .before .before .before .before .before .before .before .before .args in let ws = x .words .now in
     met-else _ (lt-leb _ _ (c .before .before .before .before .before .before .before .before .if1 .left))
-    (met-if _ (running-tells (cells-of ws) (x .worker) (c .before .before .before .before .before .before .if2 .left) (c .before .before .before .before .before .if3 .left) (c .before .before .before .before .row-at .ensures) (c .before .before .running-is-damaged .ensures (items-at ws) (nodes-at ws)) (c .before .if4 .taken)) (refuses 2 (c .refuse4 .ensures)))
+    (met-if _ (running-tells (cells-of ws) (x .worker) (c .before .before .before .before .before .before .if2 .left) (c .before .before .before .before .before .if3 .left) (c .before .before .before .before .row-at .ensures) (c .before .before .step-is-damaged .ensures (items-at ws) (nodes-at ws)) (c .before .if4 .taken)) (refuses 2 (c .refuse4 .ensures)))
 
 -- src/step.rt:69:5
 step-busy-requires : tie.Need-step-busy-requires
 step-busy-requires c κs = let x = c .before .before .before .before .before .before .before .before .before .before .before .args in let ws = x .words .now in
-    let sound = running-tells (cells-of ws) (x .worker) (c .before .before .before .before .before .before .if2 .left) (c .before .before .before .before .before .if3 .left) (c .before .before .before .before .row-at .ensures) (c .before .before .running-is-damaged .ensures (items-at ws) (nodes-at ws)) (c .before .if4 .left) in
+    let sound = running-tells (cells-of ws) (x .worker) (c .before .before .before .before .before .before .if2 .left) (c .before .before .before .before .before .if3 .left) (c .before .before .before .before .row-at .ensures) (c .before .before .step-is-damaged .ensures (items-at ws) (nodes-at ws)) (c .before .if4 .left) in
     (c .before .before .before .before .before .before .before .before .before .before .before .pre, record { there = c .before .before .before .before .before .before .before .before .if1 .left; sound = sound; runs = c .before .before .before .before .before .if3 .left; known = c .before .before .before .before .before .before .if2 .left }, c .before .before .before .before .row-at .ensures)
 
 -- src/step.rt:50:1
@@ -112,7 +112,7 @@ returns-5 : tie.Need-returns-5
 unfolding stepping
 returns-5 c = let x = c .before .before .before .before .before .before .before .before .before .before .before .before .before .before .args in let ws = x .words .now in
     met-else _ (lt-leb _ _ (c .before .before .before .before .before .before .before .before .before .before .before .if1 .left))
-    (met-else _ (running-tells (cells-of ws) (x .worker) (c .before .before .before .before .before .before .before .before .before .if2 .left) (c .before .before .before .before .before .before .before .before .if3 .left) (c .before .before .before .before .before .before .before .row-at .ensures) (c .before .before .before .before .before .running-is-damaged .ensures (items-at ws) (nodes-at ws)) (c .before .before .before .before .if4 .left))
+    (met-else _ (running-tells (cells-of ws) (x .worker) (c .before .before .before .before .before .before .before .before .before .if2 .left) (c .before .before .before .before .before .before .before .before .if3 .left) (c .before .before .before .before .before .before .before .row-at .ensures) (c .before .before .before .before .before .step-is-damaged .ensures (items-at ws) (nodes-at ws)) (c .before .before .before .before .if4 .left))
     (met-else _ (ne-eqb _ _ (c .before .before .before .before .before .before .before .before .if3 .left)) (c .before .before .step-busy .ensures)))
 
 pub step-sound-spec : {M : Type 1} → statement M
@@ -133,7 +133,7 @@ step-sound-spec =
     returns-3
     cast-row-at
     row-at-requires
-    running-is-damaged-requires
+    step-is-damaged-requires
     refuse-requires-4
     same-length
     returns-4

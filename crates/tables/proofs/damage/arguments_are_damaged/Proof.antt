@@ -132,134 +132,149 @@ returns-4 : tie.Need-returns-4
 unfolding arguments-damaged
 returns-4 c = λ a b. simp (ne-eqb _ _ (c .before .before .before .before .before .before .before .before .before .before .if1 .left), ne-eqb _ _ (c .before .before .before .before .before .before .before .before .if2 .left), ne-eqb _ _ (c .before .before .before .before .before .before .if3 .left), eq-eqb _ _ (c .before .before .before .before .if4 .taken))
 
--- src/damage.rt:90:6
-shared-slice-read-result-13 : tie.Need-shared-slice-read-result-13
-shared-slice-read-result-13 c = search needs
+-- src/damage.rt:90:9
+shared-slice-read-if5 : tie.Need-shared-slice-read-if5
+shared-slice-read-if5 c = search needs
 
--- src/damage.rt:90:31
-add-result-7 : tie.Need-add-result-7
-add-result-7 c = search needs
+-- src/damage.rt:90:34
+add-if5 : tie.Need-add-if5
+add-if5 c = search needs
 
--- src/damage.rt:90:25
-mul-result-7 : tie.Need-mul-result-7
-mul-result-7 c = search needs
+-- src/damage.rt:90:28
+mul-if5 : tie.Need-mul-if5
+mul-if5 c = search needs
 
--- src/damage.rt:90:25
-shared-slice-read-result-14 : tie.Need-shared-slice-read-result-14
-shared-slice-read-result-14 c = search needs
+-- src/damage.rt:90:28
+shared-slice-read-if5-2 : tie.Need-shared-slice-read-if5-2
+shared-slice-read-if5-2 c = search needs
 
--- src/damage.rt:91:12
-shared-slice-read-result-15 : tie.Need-shared-slice-read-result-15
-shared-slice-read-result-15 c = search needs
+-- src/damage.rt:90:52
+shared-slice-read-if5-3 : tie.Need-shared-slice-read-if5-3
+shared-slice-read-if5-3 c = search needs
 
--- src/damage.rt:91:36
-add-result-8 : tie.Need-add-result-8
-add-result-8 c = search needs
+-- src/damage.rt:90:76
+add-if5-2 : tie.Need-add-if5-2
+add-if5-2 c = search needs
 
--- src/damage.rt:91:30
-mul-result-8 : tie.Need-mul-result-8
-mul-result-8 c = search needs
+-- src/damage.rt:90:70
+mul-if5-2 : tie.Need-mul-if5-2
+mul-if5-2 c = search needs
 
--- src/damage.rt:91:30
-shared-slice-read-result-16 : tie.Need-shared-slice-read-result-16
-shared-slice-read-result-16 c = search needs
+-- src/damage.rt:90:70
+shared-slice-read-if5-4 : tie.Need-shared-slice-read-if5-4
+shared-slice-read-if5-4 c = search needs
 
--- src/damage.rt:92:12
-shared-slice-read-result-17 : tie.Need-shared-slice-read-result-17
-shared-slice-read-result-17 c = search needs
+-- src/damage.rt:91:9
+returns-5 : tie.Need-returns-5
+unfolding arguments-damaged
+returns-5 c = λ a b. rw (ne-eqb _ _ (c .before .before .before .before .before .before .before .before .before .before .before .if1 .left), ne-eqb _ _ (c .before .before .before .before .before .before .before .before .before .if2 .left), ne-eqb _ _ (c .before .before .before .before .before .before .before .if3 .left), ne-eqb _ _ (c .before .before .before .before .before .if4 .left), c .if5 .taken)
 
--- src/damage.rt:92:33
-add-result-9 : tie.Need-add-result-9
-add-result-9 c = search needs
+-- src/damage.rt:93:9
+shared-slice-read-if6 : tie.Need-shared-slice-read-if6
+shared-slice-read-if6 c = search needs
 
--- src/damage.rt:92:27
-mul-result-9 : tie.Need-mul-result-9
-mul-result-9 c = search needs
+-- src/damage.rt:93:30
+add-if6 : tie.Need-add-if6
+add-if6 c = search needs
 
--- src/damage.rt:92:27
-shared-slice-read-result-18 : tie.Need-shared-slice-read-result-18
-shared-slice-read-result-18 c = search needs
+-- src/damage.rt:93:24
+mul-if6 : tie.Need-mul-if6
+mul-if6 c = search needs
 
--- src/damage.rt:93:18
-add-result-10 : tie.Need-add-result-10
-add-result-10 c = search needs
+-- src/damage.rt:93:24
+shared-slice-read-if6-2 : tie.Need-shared-slice-read-if6-2
+shared-slice-read-if6-2 c = search needs
 
--- src/damage.rt:93:12
-mul-result-10 : tie.Need-mul-result-10
-mul-result-10 c = search needs
+-- src/damage.rt:93:52
+add-if6-2 : tie.Need-add-if6-2
+add-if6-2 c = search needs
 
--- src/damage.rt:93:12
-shared-slice-read-result-19 : tie.Need-shared-slice-read-result-19
-shared-slice-read-result-19 c = search needs
+-- src/damage.rt:93:46
+mul-if6-2 : tie.Need-mul-if6-2
+mul-if6-2 c = search needs
 
--- src/damage.rt:93:38
-add-result-11 : tie.Need-add-result-11
-add-result-11 c = search needs
+-- src/damage.rt:93:46
+shared-slice-read-if6-3 : tie.Need-shared-slice-read-if6-3
+shared-slice-read-if6-3 c = search needs
 
--- src/damage.rt:93:32
-mul-result-11 : tie.Need-mul-result-11
-mul-result-11 c = search needs
+-- src/damage.rt:93:72
+add-if6-3 : tie.Need-add-if6-3
+add-if6-3 c = search needs
 
--- src/damage.rt:93:32
-shared-slice-read-result-20 : tie.Need-shared-slice-read-result-20
-shared-slice-read-result-20 c = search needs
+-- src/damage.rt:93:66
+mul-if6-3 : tie.Need-mul-if6-3
+mul-if6-3 c = search needs
 
--- src/damage.rt:94:62
-add-result-12 : tie.Need-add-result-12
-add-result-12 c = search needs
+-- src/damage.rt:93:66
+shared-slice-read-if6-4 : tie.Need-shared-slice-read-if6-4
+shared-slice-read-if6-4 c = search needs
 
--- src/damage.rt:94:56
-mul-result-12 : tie.Need-mul-result-12
-mul-result-12 c = search needs
+-- src/damage.rt:94:9
+returns-6 : tie.Need-returns-6
+unfolding arguments-damaged
+returns-6 c = λ a b. rw (ne-eqb _ _ (c .before .before .before .before .before .before .before .before .before .before .before .before .before .before .before .before .if1 .left), ne-eqb _ _ (c .before .before .before .before .before .before .before .before .before .before .before .before .before .before .if2 .left), ne-eqb _ _ (c .before .before .before .before .before .before .before .before .before .before .before .before .if3 .left), ne-eqb _ _ (c .before .before .before .before .before .before .before .before .before .before .if4 .left), c .before .before .before .before .before .if5 .left, c .if6 .taken)
 
--- src/damage.rt:94:56
-shared-slice-read-result-21 : tie.Need-shared-slice-read-result-21
-shared-slice-read-result-21 c = search needs
+-- src/damage.rt:96:58
+add-if7 : tie.Need-add-if7
+add-if7 c = search needs
 
--- src/damage.rt:94:83
-add-result-13 : tie.Need-add-result-13
-add-result-13 c = search needs
+-- src/damage.rt:96:52
+mul-if7 : tie.Need-mul-if7
+mul-if7 c = search needs
 
--- src/damage.rt:94:77
-mul-result-13 : tie.Need-mul-result-13
-mul-result-13 c = search needs
+-- src/damage.rt:96:52
+shared-slice-read-if7 : tie.Need-shared-slice-read-if7
+shared-slice-read-if7 c = search needs
 
--- src/damage.rt:94:77
-shared-slice-read-result-22 : tie.Need-shared-slice-read-result-22
-shared-slice-read-result-22 c = search needs
+-- src/damage.rt:96:79
+add-if7-2 : tie.Need-add-if7-2
+add-if7-2 c = search needs
 
--- src/damage.rt:95:41
+-- src/damage.rt:96:73
+mul-if7-2 : tie.Need-mul-if7-2
+mul-if7-2 c = search needs
+
+-- src/damage.rt:96:73
+shared-slice-read-if7-2 : tie.Need-shared-slice-read-if7-2
+shared-slice-read-if7-2 c = search needs
+
+-- src/damage.rt:97:9
+returns-7 : tie.Need-returns-7
+unfolding arguments-damaged
+returns-7 c = λ a b. rw (c .if7 .taken, ne-eqb _ _ (c .before .before .before .before .before .before .before .before .before .before .before .before .before .before .before .before .before .before .before .before .before .if1 .left), ne-eqb _ _ (c .before .before .before .before .before .before .before .before .before .before .before .before .before .before .before .before .before .before .before .if2 .left), ne-eqb _ _ (c .before .before .before .before .before .before .before .before .before .before .before .before .before .before .before .before .before .if3 .left), ne-eqb _ _ (c .before .before .before .before .before .before .before .before .before .before .before .before .before .before .before .if4 .left), c .before .before .before .before .before .before .before .before .before .before .if5 .left, c .before .before .before .before .before .if6 .left)
+
+-- src/damage.rt:99:34
 add-sum-of : tie.Need-add-sum-of
 add-sum-of c = search needs
 
--- src/damage.rt:95:35
+-- src/damage.rt:99:28
 mul-sum-of : tie.Need-mul-sum-of
 mul-sum-of c = search needs
 
--- src/damage.rt:95:35
+-- src/damage.rt:99:28
 shared-slice-read-sum-of : tie.Need-shared-slice-read-sum-of
 shared-slice-read-sum-of c = search needs
 
--- src/damage.rt:95:63
+-- src/damage.rt:99:56
 add-sum-of-2 : tie.Need-add-sum-of-2
 add-sum-of-2 c = search needs
 
--- src/damage.rt:95:57
+-- src/damage.rt:99:50
 mul-sum-of-2 : tie.Need-mul-sum-of-2
 mul-sum-of-2 c = search needs
 
--- src/damage.rt:95:57
+-- src/damage.rt:99:50
 shared-slice-read-sum-of-2 : tie.Need-shared-slice-read-sum-of-2
 shared-slice-read-sum-of-2 c = search needs
 
--- src/damage.rt:95:28
+-- src/damage.rt:99:21
 sum-of-requires : tie.Need-sum-of-requires
 sum-of-requires c κs = search needs
 
 -- src/damage.rt:73:1
-returns-5 : tie.Need-returns-5
+returns-8 : tie.Need-returns-8
 unfolding arguments-damaged
-returns-5 c = λ a b. rw (ne-eqb _ _ (c .before .before .before .before .before .before .before .before .before .before .before .before .before .before .before .before .before .before .before .before .before .if1 .left), ne-eqb _ _ (c .before .before .before .before .before .before .before .before .before .before .before .before .before .before .before .before .before .before .before .if2 .left), ne-eqb _ _ (c .before .before .before .before .before .before .before .before .before .before .before .before .before .before .before .before .before .if3 .left), ne-eqb _ _ (c .before .before .before .before .before .before .before .before .before .before .before .before .before .before .before .if4 .left), c .sum-of .ensures)
+returns-8 c = λ a b. rw (c .before .before .before .if7 .left, ne-eqb _ _ (c .before .before .before .before .before .before .before .before .before .before .before .before .before .before .before .before .before .before .before .before .before .before .before .before .if1 .left), ne-eqb _ _ (c .before .before .before .before .before .before .before .before .before .before .before .before .before .before .before .before .before .before .before .before .before .before .if2 .left), ne-eqb _ _ (c .before .before .before .before .before .before .before .before .before .before .before .before .before .before .before .before .before .before .before .before .if3 .left), ne-eqb _ _ (c .before .before .before .before .before .before .before .before .before .before .before .before .before .before .before .before .before .before .if4 .left), c .before .before .before .before .before .before .before .before .before .before .before .before .before .if5 .left, c .before .before .before .before .before .before .before .before .if6 .left, c .sum-of .ensures)
 
 pub arguments-are-damaged-spec : {M : Type 1} → statement M
 arguments-are-damaged-spec =
@@ -295,30 +310,33 @@ arguments-are-damaged-spec =
     mul-result-6
     shared-slice-read-result-12
     returns-4
-    shared-slice-read-result-13
-    add-result-7
-    mul-result-7
-    shared-slice-read-result-14
-    shared-slice-read-result-15
-    add-result-8
-    mul-result-8
-    shared-slice-read-result-16
-    shared-slice-read-result-17
-    add-result-9
-    mul-result-9
-    shared-slice-read-result-18
-    add-result-10
-    mul-result-10
-    shared-slice-read-result-19
-    add-result-11
-    mul-result-11
-    shared-slice-read-result-20
-    add-result-12
-    mul-result-12
-    shared-slice-read-result-21
-    add-result-13
-    mul-result-13
-    shared-slice-read-result-22
+    shared-slice-read-if5
+    add-if5
+    mul-if5
+    shared-slice-read-if5-2
+    shared-slice-read-if5-3
+    add-if5-2
+    mul-if5-2
+    shared-slice-read-if5-4
+    returns-5
+    shared-slice-read-if6
+    add-if6
+    mul-if6
+    shared-slice-read-if6-2
+    add-if6-2
+    mul-if6-2
+    shared-slice-read-if6-3
+    add-if6-3
+    mul-if6-3
+    shared-slice-read-if6-4
+    returns-6
+    add-if7
+    mul-if7
+    shared-slice-read-if7
+    add-if7-2
+    mul-if7-2
+    shared-slice-read-if7-2
+    returns-7
     add-sum-of
     mul-sum-of
     shared-slice-read-sum-of
@@ -326,4 +344,4 @@ arguments-are-damaged-spec =
     mul-sum-of-2
     shared-slice-read-sum-of-2
     sum-of-requires
-    returns-5)
+    returns-8)
