@@ -19,3 +19,5 @@ pub mod Never
 pub mod Noted
 pub mod Formed
 pub mod Reached
+pub mod Unused
+pub mod Idle

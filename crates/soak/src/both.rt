@@ -1,32 +1,14 @@
 // One call, on the code and on the model: logged, made twice, counted, compared.
-use crate::draws::size_of;
-use crate::frames;
-use crate::notes::{count, get, lower, move_place, place, put, raise, CATALOGUES, COMPARED, DIFFER, FIRST_AT, LIFE, LONGEST, PHASES, REFUSALS};
+use tally::draws::size_of;
+use tally::frames;
+use tally::frames::Call;
+use tally::notes::{count, get, lower, move_place, place, put, raise, CATALOGUES, COMPARED, DIFFER, FIRST_AT, LIFE, LONGEST, PHASES, REFUSALS};
 use definitions::Answer;
 use model::setup::Reply;
 use tables::fields::{HEADER_WORDS, PHASE, WORKER_WORDS};
 ghost use mathlib.Core.Path.{_≡_};
 ghost use mathlib.Core.Bool.{_&&_};
 ghost use lib.Dec.{eqb};
-
-// A call by its frame's operation, 1 to 8, and its arguments, with how many words are lent to it.
-pub struct Call {
-    pub operation: u32,
-    pub a: u32,
-    pub b: u32,
-    pub c: u32,
-    pub d: u32,
-    pub e: u32,
-    pub lent: usize,
-}
-
-pub fn call_of(operation: u32, a: u32, b: u32, c: u32, d: u32) -> Call {
-    Call { operation, a, b, c, d, e: 0, lent: 16384 }
-}
-
-pub fn make_of(workers: u32, items: u32, nodes: u32, projects: u32, counter: u32) -> Call {
-    Call { operation: 1, a: workers, b: items, c: nodes, d: projects, e: counter, lent: 16384 }
-}
 
 fn code_says(words: &mut [u32], call: Call) -> Answer {
     let operation = call.operation;

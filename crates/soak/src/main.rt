@@ -1,15 +1,11 @@
 // soak SEED ROUNDS: draws calls by document 01's generator, makes each on the code and on the model, and compares every
 // answer. The report is a function of the two arguments.
 mod both;
-mod draws;
-mod frames;
 mod longest;
-mod notes;
 mod play;
-mod report;
 
 use model::memory::MEMORY;
-use notes::{put, NOTES, ROUNDS, SEED, STATE};
+use tally::notes::{put, NOTES, ROUNDS, SEED, STATE};
 
 const LENT: usize = 16384;
 const LOG: usize = 312000;
@@ -53,7 +49,7 @@ fn argument(i: usize, otherwise: u64) -> u64 {
 // A line on standard error, every few seconds of a long run.
 fn tell_progress(tally: &[u64], left: u64) {
     if left % 16777216 == 16777215 {
-        report::tell_progress(tally, left);
+        tally::report::tell_progress(tally, left);
     }
 }
 
@@ -73,7 +69,7 @@ fn soak(words: &mut [u32], memory: &mut [usize], log: &mut [u32], tally: &mut [u
     put(tally, ROUNDS, rounds);
     put(tally, STATE, seed);
     all_calls(words, memory, log, tally, rounds);
-    report::report(tally);
+    tally::report::report(tally);
 }
 
 fn main() {

@@ -1,9 +1,9 @@
 // Which calls are made. A round draws a worker, starts an operation where it rests and steps it where it does not; now
 // and then an item is registered, a call is made that may be refused for several reasons, or a new catalogue is made.
-use crate::both::{call_of, make_of, Call};
-use crate::draws::{among, draw, from_one, low, more, narrow, once_in, wide, wide_draw};
+use tally::frames::{call_of, make_of, Call};
+use tally::draws::{among, draw, from_one, low, more, narrow, once_in, wide, wide_draw};
 use crate::longest;
-use crate::notes::{get as noted, lower, put as note, LIFE, LOGGED, WAITING, WIDE};
+use tally::notes::{get as noted, lower, put as note, LIFE, LOGGED, WAITING, WIDE};
 use model::memory::{get, less_one, present_value, COUNTER, ITEMS, NEEDED, PROJECTS, WORKERS};
 use model::starts::is_resting;
 

@@ -1,8 +1,8 @@
 -- `soak::frames::show` is safe and ends. The measure is what is left to count. Assumes nothing.
 use borrow.Author.Needs.{needs}
 use Prim.Native.Nat.{_-_}
-use Rattle.soak.proofs.frames.show.Statement.{statement}
-use Rattle.soak.proofs.frames.show.Tie as tie
+use Rattle.tally.proofs.frames.show.Statement.{statement}
+use Rattle.tally.proofs.frames.show.Tie as tie
 
 abbrev Inv-loop : tie.InvT-loop
 Inv-loop log tally all number₀ number = Unit {0}

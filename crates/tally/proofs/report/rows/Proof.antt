@@ -1,8 +1,8 @@
 -- `soak::report::rows` is safe and ends. The measure is what is left to count. Assumes nothing.
 use borrow.Author.Needs.{needs}
 use Prim.Native.Nat.{_-_}
-use Rattle.soak.proofs.report.rows.Statement.{statement}
-use Rattle.soak.proofs.report.rows.Tie as tie
+use Rattle.tally.proofs.report.rows.Statement.{statement}
+use Rattle.tally.proofs.report.rows.Tie as tie
 
 abbrev Inv-loop : tie.InvT-loop
 Inv-loop tally text from first last which₀ which = Unit {0}

@@ -1,8 +1,8 @@
 -- `soak::frames::show_arguments` is safe and ends. The measure is what is left to count. Assumes nothing.
 use borrow.Author.Needs.{needs}
 use Prim.Native.Nat.{_-_}
-use Rattle.soak.proofs.frames.show_arguments.Statement.{statement}
-use Rattle.soak.proofs.frames.show_arguments.Tie as tie
+use Rattle.tally.proofs.frames.show_arguments.Statement.{statement}
+use Rattle.tally.proofs.frames.show_arguments.Tie as tie
 
 abbrev Inv-loop : tie.InvT-loop
 Inv-loop log number some which₀ which = Unit {0}

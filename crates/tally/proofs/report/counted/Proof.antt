@@ -1,13 +1,13 @@
--- `soak::report::moves_met` is safe and ends. The measure is what is left to count. Assumes nothing.
+-- `soak::report::counted` is safe and ends. The measure is what is left to count. Assumes nothing.
 use borrow.Author.Needs.{needs}
-use Rattle.soak.proofs.report.moves_met.Statement.{statement}
-use Rattle.soak.proofs.report.moves_met.Tie as tie
+use Rattle.tally.proofs.report.counted.Statement.{statement}
+use Rattle.tally.proofs.report.counted.Tie as tie
 
 abbrev Inv-loop : tie.InvT-loop
-Inv-loop tally left₀ met₀ left met = Unit {0}
+Inv-loop tally from some left₀ all₀ left all = Unit {0}
 
 abbrev μ-loop : tie.MeasureT-loop
-μ-loop tally left₀ met₀ left met = left
+μ-loop tally from some left₀ all₀ left all = left
 
 loop-holds : tie.Need-loop-holds Inv-loop μ-loop
 loop-holds c = search needs
@@ -15,8 +15,8 @@ loop-holds c = search needs
 sub-left : tie.Need-sub-left Inv-loop μ-loop
 sub-left c = search needs
 
-place-of-move-requires : tie.Need-place-of-move-requires Inv-loop μ-loop
-place-of-move-requires c κs = search needs
+wrapping-add-usize-requires : tie.Need-wrapping-add-usize-requires Inv-loop μ-loop
+wrapping-add-usize-requires c κs = search needs
 
 one-if-counted-requires : tie.Need-one-if-counted-requires Inv-loop μ-loop
 one-if-counted-requires c κs = search needs
@@ -33,15 +33,15 @@ loop-again c = search needs
 returns : tie.Need-returns Inv-loop μ-loop
 returns c = search needs
 
-pub moves-met-spec : {M : Type 1} → statement M
-moves-met-spec =
+pub counted-spec : {M : Type 1} → statement M
+counted-spec =
     tie.close
     (tie.spec
     Inv-loop
     μ-loop
     loop-holds
     sub-left
-    place-of-move-requires
+    wrapping-add-usize-requires
     one-if-counted-requires
     wrapping-add-u64-requires
     loop-less

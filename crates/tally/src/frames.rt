@@ -1,8 +1,26 @@
 // The log of the calls since the last make, and its frames, as the schedule program reads them.
-use crate::both::Call;
 use crate::draws::{low, wide};
 use crate::notes::{count, get, LOGGED};
 use libc::STDOUT_FILENO;
+
+// A call by its frame's operation, 1 to 8, and its arguments, with how many words are lent to it.
+pub struct Call {
+    pub operation: u32,
+    pub a: u32,
+    pub b: u32,
+    pub c: u32,
+    pub d: u32,
+    pub e: u32,
+    pub lent: usize,
+}
+
+pub fn call_of(operation: u32, a: u32, b: u32, c: u32, d: u32) -> Call {
+    Call { operation, a, b, c, d, e: 0, lent: 16384 }
+}
+
+pub fn make_of(workers: u32, items: u32, nodes: u32, projects: u32, counter: u32) -> Call {
+    Call { operation: 1, a: workers, b: items, c: nodes, d: projects, e: counter, lent: 16384 }
+}
 
 // How many calls the log holds.
 pub const MOST: u64 = 52000;

@@ -1,8 +1,8 @@
 -- `soak::report::moves` is safe and ends. The measure is what is left to count. Assumes nothing.
 use borrow.Author.Needs.{needs}
 use Prim.Native.Nat.{_-_}
-use Rattle.soak.proofs.report.moves.Statement.{statement}
-use Rattle.soak.proofs.report.moves.Tie as tie
+use Rattle.tally.proofs.report.moves.Statement.{statement}
+use Rattle.tally.proofs.report.moves.Tie as tie
 
 abbrev Inv-loop : tie.InvT-loop
 Inv-loop tally which₀ which = Unit {0}
