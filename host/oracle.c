@@ -1,22 +1,43 @@
-/* Document 01 over the lent words, for comparison: see oracle.h. Each record is a struct of words laid over the lent ones. */
+/*
+ * Document 01 in C, to be held against it section by section: the lent words, the table of phases, what is damaged, make and register, the
+ * starts, and the steps, one function for each line of Algorithm 1. A call first tests everything and only then writes, so that a refusal
+ * changes no word. Nothing here follows a number found in the words before it was tested against its range.
+ */
 #include "oracle.h"
 
-#include <string.h>
+#include <stdbool.h>
+
+const char *const kind_name[KINDS] = {
+    "make", "register", "start of vRead", "start of vCAS", "start of takeSnapshot", "start of readSnapshot", "start of total", "step",
+};
+
+/* ---- The lent words: header, workers, items, nodes, in the words of docs/FIELDS.md ---- */
+/* Every member of a record is a uint32_t, so that a record laid over the words reads and writes them as what they are. */
+
+static const uint32_t TBD = 4294967295u;
 
 struct header {
-  uint32_t workers, items_limit, nodes_limit, projects, counter_limit, counter, items, used, given_back, unused[7];
+  uint32_t workers, items_limit, nodes_limit, projects, counter_limit; /* P, M, N, Q, C */
+  uint32_t counter, items, used, given_back, unused[7];                /* given_back: a node number plus one; 0: none waits */
 };
+
 struct worker {
   uint32_t phase, steps, item, old, new, handle, project, noted, node, new_node, seen, sum_low, sum_high, unused[3];
 };
+
 struct item {
   uint32_t head, birth, size, unused;
 };
+
 struct node {
-  uint32_t value, older, stamp;
+  uint32_t value, older, stamp; /* older: a node number plus one; 0: none */
 };
 
-/* The four parts of the lent words, of a header that is not damaged. */
+_Static_assert(sizeof(struct header) == 16 * sizeof(uint32_t), "a header is 16 words");
+_Static_assert(sizeof(struct worker) == 16 * sizeof(uint32_t), "a worker is 16 words");
+_Static_assert(sizeof(struct item) == 4 * sizeof(uint32_t), "an item is 4 words");
+_Static_assert(sizeof(struct node) == 3 * sizeof(uint32_t), "a node is 3 words");
+
 struct catalogue {
   struct header *header;
   struct worker *workers;
@@ -24,330 +45,452 @@ struct catalogue {
   struct node *nodes;
 };
 
-const char *const kind_name[KINDS] = {"make", "register", "start vRead", "start vCAS", "start takeSnapshot", "start readSnapshot", "start total", "step"};
+static size_t needed_words(uint32_t workers, uint32_t items, uint32_t nodes) {
+  return 16 + 16 * (size_t)workers + 4 * (size_t)items + 3 * (size_t)nodes;
+}
 
-static const uint32_t TBD = UINT32_MAX;
-static const uint64_t MOST_SUM = (uint64_t)1 << 40;
-enum { MOST_STEPS = 5121 };
+/* The four parts of the words. Only for a header that is not damaged: its sizes say where the parts begin. */
+static struct catalogue parts_of(uint32_t *words) {
+  struct header *header = (struct header *)words;
+  struct worker *workers = (struct worker *)(words + 16);
+  struct item *items = (struct item *)(workers + header->workers);
+  struct node *nodes = (struct node *)(items + header->items_limit);
+  return (struct catalogue){header, workers, items, nodes};
+}
 
-/* The table of phases, column by column as docs/FIELDS.md has it. */
-enum { IDLE, VREAD, VCAS, TAKE_SNAPSHOT, READ_SNAPSHOT, TOTAL };
-enum { KEEPS_NODE = 1, KEEPS_NEW_NODE = 2, KEEPS_SEEN = 4 };
-enum { NO_WORDS, STAMP, VALUE, NODE_TAKEN, NODE_RETURNED, NODE_TESTED };
-enum { CLOSING = 35, AFTER_SUCCESS = 13, AFTER_FAILURE = 17 };
-static const uint32_t first_phase[6] = {0, 1, 6, 23, 25, 30};
+/* ---- The table of phases ---- */
 
-#define FETCH(operation, line) {operation, line, 0, 0, NO_WORDS}
-#define HELP(operation) \
-  {operation, 20, 0, KEEPS_NODE, STAMP}, {operation, 21, 0, KEEPS_NODE, NO_WORDS}, {operation, 22, 0, KEEPS_NODE | KEEPS_SEEN, STAMP}
+enum operation { IDLE, VREAD, VCAS, TAKE_SNAPSHOT, READ_SNAPSHOT, TOTAL };
+
+/* Where each operation begins; a total begins at its first item, or at the closing step if there is none. */
+enum { VREAD_BEGINS = 1, VCAS_BEGINS = 6, TAKE_SNAPSHOT_BEGINS = 23, READ_SNAPSHOT_BEGINS = 25, TOTAL_ITEM_BEGINS = 30, TOTAL_CLOSES = 35 };
+
+/* Column `kept`: the words of the record, besides the arguments, that a phase has in use. */
+enum kept { KEPT_NODE = 1, KEPT_NEW = 2, KEPT_SEEN = 4 };
+
+/* Column `node_words`: the words of nodes that a step has in use. */
+enum node_words { NO_WORDS, ITS_STAMP, ITS_VALUE, NODE_TAKEN, NODES_GIVEN, NODE_TESTED };
 
 const struct phase_row phase_rows[PHASES] = {
-  {IDLE, 0, 0, 0, NO_WORDS},
-  FETCH(VREAD, 37), HELP(VREAD), {VREAD, 39, 1, KEEPS_NODE, VALUE},
-  FETCH(VCAS, 41), HELP(VCAS), {VCAS, 43, 1, KEEPS_NODE, VALUE}, {VCAS, 45, 0, KEEPS_NODE, NODE_TAKEN},
-  {VCAS, 46, 0, KEEPS_NODE | KEEPS_NEW_NODE, NO_WORDS}, HELP(VCAS), {VCAS, 48, 1, 0, NO_WORDS},
-  {VCAS, 50, 0, KEEPS_NEW_NODE, NODE_RETURNED}, FETCH(VCAS, 51), HELP(VCAS), {VCAS, 52, 1, 0, NO_WORDS},
-  {TAKE_SNAPSHOT, 5, 0, 0, NO_WORDS}, {TAKE_SNAPSHOT, 6, 1, KEEPS_SEEN, NO_WORDS},
-  FETCH(READ_SNAPSHOT, 32), HELP(READ_SNAPSHOT), {READ_SNAPSHOT, 34, 1, KEEPS_NODE, NODE_TESTED},
-  FETCH(TOTAL, 32), HELP(TOTAL), {TOTAL, 34, 0, KEEPS_NODE, NODE_TESTED}, {TOTAL, 0, 1, 0, NO_WORDS},
+    /* operation, line, may answer, kept, node words, goes on at, otherwise at */
+    [0] = {IDLE, 0, 0, 0, NO_WORDS, 0, 0},
+    [1] = {VREAD, 37, 0, 0, NO_WORDS, 2, 0},
+    [2] = {VREAD, 20, 0, KEPT_NODE, ITS_STAMP, 3, 5},
+    [3] = {VREAD, 21, 0, KEPT_NODE, NO_WORDS, 4, 0},
+    [4] = {VREAD, 22, 0, KEPT_NODE | KEPT_SEEN, ITS_STAMP, 5, 0},
+    [5] = {VREAD, 39, 1, KEPT_NODE, ITS_VALUE, 0, 0},
+    [6] = {VCAS, 41, 0, 0, NO_WORDS, 7, 0},
+    [7] = {VCAS, 20, 0, KEPT_NODE, ITS_STAMP, 8, 10},
+    [8] = {VCAS, 21, 0, KEPT_NODE, NO_WORDS, 9, 0},
+    [9] = {VCAS, 22, 0, KEPT_NODE | KEPT_SEEN, ITS_STAMP, 10, 0},
+    [10] = {VCAS, 43, 1, KEPT_NODE, ITS_VALUE, 11, 0},
+    [11] = {VCAS, 45, 0, KEPT_NODE, NODE_TAKEN, 12, 0},
+    [12] = {VCAS, 46, 0, KEPT_NODE | KEPT_NEW, NO_WORDS, 13, 17},
+    [13] = {VCAS, 20, 0, KEPT_NODE, ITS_STAMP, 14, 16},
+    [14] = {VCAS, 21, 0, KEPT_NODE, NO_WORDS, 15, 0},
+    [15] = {VCAS, 22, 0, KEPT_NODE | KEPT_SEEN, ITS_STAMP, 16, 0},
+    [16] = {VCAS, 48, 1, 0, NO_WORDS, 0, 0},
+    [17] = {VCAS, 50, 0, KEPT_NEW, NODES_GIVEN, 18, 0},
+    [18] = {VCAS, 51, 0, 0, NO_WORDS, 19, 0},
+    [19] = {VCAS, 20, 0, KEPT_NODE, ITS_STAMP, 20, 22},
+    [20] = {VCAS, 21, 0, KEPT_NODE, NO_WORDS, 21, 0},
+    [21] = {VCAS, 22, 0, KEPT_NODE | KEPT_SEEN, ITS_STAMP, 22, 0},
+    [22] = {VCAS, 52, 1, 0, NO_WORDS, 0, 0},
+    [23] = {TAKE_SNAPSHOT, 5, 0, 0, NO_WORDS, 24, 0},
+    [24] = {TAKE_SNAPSHOT, 6, 1, KEPT_SEEN, NO_WORDS, 0, 0},
+    [25] = {READ_SNAPSHOT, 32, 0, 0, NO_WORDS, 26, 0},
+    [26] = {READ_SNAPSHOT, 20, 0, KEPT_NODE, ITS_STAMP, 27, 29},
+    [27] = {READ_SNAPSHOT, 21, 0, KEPT_NODE, NO_WORDS, 28, 0},
+    [28] = {READ_SNAPSHOT, 22, 0, KEPT_NODE | KEPT_SEEN, ITS_STAMP, 29, 0},
+    [29] = {READ_SNAPSHOT, 34, 1, KEPT_NODE, NODE_TESTED, 29, 0},
+    [30] = {TOTAL, 32, 0, 0, NO_WORDS, 31, 0},
+    [31] = {TOTAL, 20, 0, KEPT_NODE, ITS_STAMP, 32, 34},
+    [32] = {TOTAL, 21, 0, KEPT_NODE, NO_WORDS, 33, 0},
+    [33] = {TOTAL, 22, 0, KEPT_NODE | KEPT_SEEN, ITS_STAMP, 34, 0},
+    [34] = {TOTAL, 34, 0, KEPT_NODE, NODE_TESTED, 34, 0},
+    [35] = {TOTAL, 0, 1, 0, NO_WORDS, 0, 0},
 };
 
-static struct answer refused(uint32_t number) { return (struct answer){GORAVESHA_REFUSED + number, 0, 0}; }
-static struct answer accepted(uint64_t value) { return (struct answer){GORAVESHA_ACCEPTED, value, 0}; }
-
-/* Damage. */
-
-static int size_outside(uint32_t size, uint32_t most) { return size == 0 || size > most; }
-
-static int sizes_outside(uint32_t p, uint32_t m, uint32_t n, uint32_t q, uint32_t c) {
-  return size_outside(p, 64) || size_outside(m, 256) || size_outside(n, 4096) || size_outside(q, 256) || size_outside(c, 4294967294u);
+/* Every phase but 0, 23, 24 and 35: only idle and the closing step have line 0. */
+static bool inside_an_item(const struct phase_row *row) {
+  return row->line != 0 && row->operation != TAKE_SNAPSHOT;
 }
 
-static int open_catalogue(uint32_t *words, size_t count, struct catalogue *catalogue) {
-  if (count < 16) return 0;
-  struct header *h = (struct header *)words;
-  if (sizes_outside(h->workers, h->items_limit, h->nodes_limit, h->projects, h->counter_limit)) return 0;
-  if (h->counter > h->counter_limit || h->items > h->items_limit || h->used > h->nodes_limit || h->given_back > h->used) return 0;
-  if (count < GORAVESHA_WORDS(h->workers, h->items_limit, h->nodes_limit)) return 0;
-  catalogue->header = h;
-  catalogue->workers = (struct worker *)(words + 16);
-  catalogue->items = (struct item *)(words + 16 + 16 * h->workers);
-  catalogue->nodes = (struct node *)(words + 16 + 16 * h->workers + 4 * h->items_limit);
-  return 1;
+/* ---- Damaged: a word this call uses is outside its range ---- */
+
+static bool outside(uint32_t number, uint32_t least, uint32_t most) {
+  return number < least || number > most;
 }
 
-static uint64_t sum_of(const struct worker *w) { return ((uint64_t)w->sum_high << 32) + w->sum_low; }
+/* The ranges of P, M, N, Q and C: refusal 1 to make, damage in a header. */
+static bool sizes_outside(uint32_t workers, uint32_t items, uint32_t nodes, uint32_t projects, uint32_t counter) {
+  if (outside(workers, 1, 64)) return true;
+  if (outside(items, 1, 256)) return true;
+  if (outside(nodes, 1, 4096)) return true;
+  if (outside(projects, 1, 256)) return true;
+  return outside(counter, 1, 4294967294u);
+}
 
-static int inside_item(uint32_t phase) { return phase != 0 && phase != 23 && phase != 24 && phase != CLOSING; }
+static bool header_damaged(const uint32_t *words, size_t count) {
+  if (count < 16) return true;
+  const struct header *header = (const struct header *)words;
+  if (sizes_outside(header->workers, header->items_limit, header->nodes_limit, header->projects, header->counter_limit)) return true;
+  if (header->counter > header->counter_limit) return true;
+  if (header->items > header->items_limit) return true;
+  if (header->used > header->nodes_limit) return true;
+  if (header->given_back > header->used) return true;
+  return count < needed_words(header->workers, header->items_limit, header->nodes_limit);
+}
 
-static int arguments_damaged(const struct header *h, const struct worker *w) {
-  switch (phase_rows[w->phase].operation) {
-    case VREAD: return w->item >= h->items;
-    case VCAS: return w->item >= h->items || w->old >= h->projects || w->new >= h->projects;
-    case READ_SNAPSHOT: return w->item >= h->items || w->handle >= h->counter;
-    case TOTAL:
-      if (w->project >= h->projects || w->handle >= h->counter || w->noted > h->items || w->item > w->noted) return 1;
-      if (inside_item(w->phase) && w->item == w->noted) return 1;
-      return sum_of(w) > MOST_SUM;
-    default: return 0;
+static uint64_t running_sum(const struct worker *worker) {
+  return ((uint64_t)worker->sum_high << 32) + worker->sum_low;
+}
+
+/* A running operation's arguments are in use at each of its phases. */
+static bool arguments_damaged(const struct header *header, const struct worker *worker, const struct phase_row *row) {
+  switch (row->operation) {
+  case VREAD: return worker->item >= header->items;
+  case VCAS: return worker->item >= header->items || worker->old >= header->projects || worker->new >= header->projects;
+  case READ_SNAPSHOT: return worker->item >= header->items || worker->handle >= header->counter;
+  case TOTAL:
+    if (worker->project >= header->projects) return true;
+    if (worker->handle >= header->counter) return true; /* a handle is below the counter */
+    if (worker->noted > header->items) return true;
+    if (worker->item > worker->noted) return true;
+    if (inside_an_item(row) && worker->item == worker->noted) return true;
+    return running_sum(worker) > (uint64_t)1 << 40;
+  default: return false; /* takeSnapshot has none */
   }
 }
 
-static int kept_damaged(const struct header *h, const struct worker *w) {
-  const struct phase_row *row = &phase_rows[w->phase];
-  if ((row->kept & KEEPS_NODE) && w->node >= h->used) return 1;
-  if ((row->kept & KEEPS_NEW_NODE) && w->new_node >= h->used) return 1;
-  if (!(row->kept & KEEPS_SEEN)) return 0;
-  return row->line == 6 ? w->seen >= h->counter_limit : w->seen > h->counter;
+static bool kept_words_damaged(const struct header *header, const struct worker *worker, const struct phase_row *row) {
+  if (row->kept & KEPT_NODE && worker->node >= header->used) return true;
+  if (row->kept & KEPT_NEW && worker->new_node >= header->used) return true;
+  if (!(row->kept & KEPT_SEEN)) return false;
+  if (row->line == 6) return worker->seen >= header->counter_limit; /* line 6 may store one more */
+  return worker->seen > header->counter;
 }
 
-static int worker_damaged(const struct header *h, const struct worker *w) {
-  if (w->phase >= PHASES) return 1;
-  if (w->phase == 0) return 0;
-  return w->steps >= MOST_STEPS || arguments_damaged(h, w) || kept_damaged(h, w);
+static bool worker_damaged(const struct header *header, const struct worker *worker) {
+  if (worker->phase >= PHASES) return true;
+  const struct phase_row *row = &phase_rows[worker->phase];
+  if (row->operation == IDLE) return false; /* an idle worker's other words are not in use */
+  if (worker->steps >= 5121) return true;
+  return arguments_damaged(header, worker, row) || kept_words_damaged(header, worker, row);
 }
 
-static int item_damaged(const struct header *h, const struct item *i) { return i->head >= h->used || i->birth > h->counter; }
-
-static int stamp_damaged(const struct header *h, const struct node *n) { return n->stamp > h->counter && n->stamp != TBD; }
-
-static int node_damaged(const struct header *h, const struct node *n) {
-  return n->value >= h->projects || n->older > h->used || stamp_damaged(h, n);
+static bool item_damaged(const struct header *header, const struct item *item) {
+  return item->head >= header->used || item->birth > header->counter;
 }
 
-/* The node that register and line 45 take; none where all were used and none waits. */
-static struct node *node_to_take(struct catalogue c) {
-  if (c.header->given_back != 0) return &c.nodes[c.header->given_back - 1];
-  return c.header->used < c.header->nodes_limit ? &c.nodes[c.header->used] : NULL;
+static bool value_damaged(const struct header *header, const struct node *node) {
+  return node->value >= header->projects;
 }
 
-static void take_node(struct catalogue c, struct node *taken) {
-  if (c.header->given_back != 0) c.header->given_back = taken->older;
-  else c.header->used++;
+static bool older_damaged(const struct header *header, const struct node *node) {
+  return node->older > header->used;
 }
 
-/* Line 34: no TBD, an older node where it must go on, else a value. */
-static int tested_node_damaged(const struct header *h, const struct node *n, uint32_t handle) {
-  if (n->stamp > h->counter) return 1;
-  return n->stamp > handle ? n->older == 0 || n->older > h->used : n->value >= h->projects;
+static bool stamp_damaged(const struct header *header, const struct node *node) {
+  return node->stamp > header->counter && node->stamp != TBD;
 }
 
-static int node_words_damaged(struct catalogue c, const struct worker *w) {
-  const struct header *h = c.header;
-  switch (phase_rows[w->phase].node_words) {
-    case STAMP: return stamp_damaged(h, &c.nodes[w->node]);
-    case VALUE: return c.nodes[w->node].value >= h->projects;
-    case NODE_TAKEN: {
-      const struct node *taken = node_to_take(c);
-      return taken != NULL && node_damaged(h, taken);
-    }
-    case NODE_RETURNED:
-      return c.nodes[w->new_node].older > h->used || (h->given_back != 0 && node_damaged(h, &c.nodes[h->given_back - 1]));
-    case NODE_TESTED: return tested_node_damaged(h, &c.nodes[w->node], w->handle);
-    default: return 0;
+static bool node_damaged(const struct header *header, const struct node *node) {
+  return value_damaged(header, node) || older_damaged(header, node) || stamp_damaged(header, node);
+}
+
+/* Line 34 uses the stamp, which H made valid, then the older node where it goes on and the value where it does not. */
+static bool tested_node_damaged(const struct header *header, const struct node *node, uint32_t handle) {
+  if (node->stamp > header->counter) return true; /* so is TBD */
+  if (node->stamp > handle) return node->older == 0 || older_damaged(header, node);
+  return value_damaged(header, node);
+}
+
+/* ---- Taking a node: the one most recently given back; if none waits, the lowest never used ---- */
+
+static bool no_node_left(const struct header *header) {
+  return header->given_back == 0 && header->used == header->nodes_limit;
+}
+
+static struct node *node_to_take(struct catalogue catalogue) {
+  const struct header *header = catalogue.header;
+  const uint32_t number = header->given_back != 0 ? header->given_back - 1 : header->used;
+  return &catalogue.nodes[number];
+}
+
+static uint32_t take_node(struct catalogue catalogue, struct node filled) {
+  struct node *node = node_to_take(catalogue);
+  if (catalogue.header->given_back != 0) {
+    catalogue.header->given_back = node->older; /* read before line 45 or register writes it */
+  } else {
+    catalogue.header->used += 1;
   }
+  *node = filled;
+  return (uint32_t)(node - catalogue.nodes);
 }
 
-/* How a step ends. */
+/* ---- Answers ---- */
 
-static struct answer goes_on(struct worker *w, uint32_t phase) {
-  w->phase = phase;
-  w->steps++;
-  return (struct answer){GORAVESHA_RUNNING, 0, w->steps};
+static struct answer accepted(uint32_t value) {
+  return (struct answer){.code = GORAVESHA_ACCEPTED, .value = value, .steps = 0};
 }
 
-static struct answer ends(struct worker *w, uint32_t code, uint64_t value) {
-  struct answer answer = {code, value, (uint64_t)w->steps + 1};
-  memset(w, 0, sizeof *w);
-  return answer;
+static struct answer refused(uint32_t number) {
+  return (struct answer){.code = GORAVESHA_REFUSED + number, .value = 0, .steps = 0};
 }
 
-static struct answer next_item(struct worker *w) {
-  w->item++;
-  return goes_on(w, w->item == w->noted ? CLOSING : first_phase[TOTAL]);
-}
-
-/* Algorithm 1's lines. */
-
-static struct answer line_45(struct catalogue c, struct worker *w) {
-  struct node *taken = node_to_take(c);
-  if (taken == NULL) return ends(w, GORAVESHA_REFUSED + 11, 0);
-  take_node(c, taken);
-  *taken = (struct node){w->new, w->node + 1, TBD};
-  w->new_node = (uint32_t)(taken - c.nodes);
-  return goes_on(w, w->phase + 1);
-}
-
-static struct answer line_46(struct catalogue c, struct worker *w) {
-  struct item *item = &c.items[w->item];
-  if (item->head != w->node) return goes_on(w, AFTER_FAILURE);
-  item->head = w->node = w->new_node;
-  return goes_on(w, AFTER_SUCCESS);
-}
-
-static struct answer line_34(struct catalogue c, struct worker *w) {
-  const struct node *node = &c.nodes[w->node];
-  if (node->stamp > w->handle) {
-    w->node = node->older - 1;
-    return goes_on(w, w->phase);
-  }
-  if (phase_rows[w->phase].operation == READ_SNAPSHOT) return ends(w, GORAVESHA_FINISHED, node->value);
-  uint64_t sum = sum_of(w) + (node->value == w->project ? c.items[w->item].size : 0);
-  w->sum_low = (uint32_t)sum;
-  w->sum_high = (uint32_t)(sum >> 32);
-  return next_item(w);
-}
-
-static struct answer line_6(struct catalogue c, struct worker *w) {
-  uint32_t seen = w->seen;
-  if (c.header->counter == seen) c.header->counter = seen + 1;
-  return ends(w, GORAVESHA_FINISHED, seen);
-}
-
-static struct answer line_22(struct catalogue c, struct worker *w) {
-  struct node *node = &c.nodes[w->node];
-  if (node->stamp == TBD) node->stamp = w->seen;
-  return goes_on(w, w->phase + 1);
-}
-
-/* Lines 43 and 44 together. */
-static struct answer line_43(struct catalogue c, struct worker *w) {
-  if (c.nodes[w->node].value != w->old) return ends(w, GORAVESHA_FINISHED, 0);
-  return w->new == w->old ? ends(w, GORAVESHA_FINISHED, 1) : goes_on(w, w->phase + 1);
-}
-
-static struct answer line_50(struct catalogue c, struct worker *w) {
-  c.nodes[w->new_node].older = c.header->given_back;
-  c.header->given_back = w->new_node + 1;
-  return goes_on(w, w->phase + 1);
-}
-
-static struct answer run_line(struct catalogue c, struct worker *w) {
-  struct header *h = c.header;
-  const struct phase_row *row = &phase_rows[w->phase];
-  switch (row->line) {
-    case 32:
-      if (row->operation == TOTAL && c.items[w->item].birth > w->handle) return next_item(w);
-      /* fall through */
-    case 37: case 41: case 51:
-      w->node = c.items[w->item].head;
-      return goes_on(w, w->phase + 1);
-    case 20: return goes_on(w, c.nodes[w->node].stamp == TBD ? w->phase + 1 : w->phase + 3);
-    case 21:
-      w->seen = h->counter;
-      return goes_on(w, w->phase + 1);
-    case 22: return line_22(c, w);
-    case 39: return ends(w, GORAVESHA_FINISHED, c.nodes[w->node].value);
-    case 43: return line_43(c, w);
-    case 45: return line_45(c, w);
-    case 46: return line_46(c, w);
-    case 48: return ends(w, GORAVESHA_FINISHED, 1);
-    case 50: return line_50(c, w);
-    case 52: return ends(w, GORAVESHA_FINISHED, 0);
-    case 5:
-      if (h->counter >= h->counter_limit) return ends(w, GORAVESHA_REFUSED + 12, 0);
-      w->seen = h->counter;
-      return goes_on(w, w->phase + 1);
-    case 6: return line_6(c, w);
-    case 34: return line_34(c, w);
-    default: return ends(w, GORAVESHA_FINISHED, sum_of(w)); /* a total's closing step */
-  }
-}
-
-/* The calls. */
+/* ---- Make and register ---- */
 
 static struct answer make(uint32_t *words, size_t count, const uint32_t *size) {
-  if (sizes_outside(size[0], size[1], size[2], size[3], size[4]) || count < GORAVESHA_WORDS(size[0], size[1], size[2])) return refused(1);
-  memset(words, 0, GORAVESHA_WORDS(size[0], size[1], size[2]) * sizeof *words);
-  memcpy(words, size, 5 * sizeof *words);
+  if (sizes_outside(size[0], size[1], size[2], size[3], size[4])) return refused(1);
+  const size_t needed = needed_words(size[0], size[1], size[2]);
+  if (count < needed) return refused(1);
+  for (size_t word = 0; word < needed; word += 1) words[word] = word < 5 ? size[word] : 0;
   return accepted(0);
 }
 
-static struct answer registers(struct catalogue c, uint32_t value, uint32_t size) {
-  struct header *h = c.header;
-  if (value >= h->projects) return refused(7);
-  if (h->items == h->items_limit) return refused(10);
-  struct node *taken = node_to_take(c);
-  if (taken == NULL) return refused(11);
-  if (node_damaged(h, taken)) return refused(2);
-  take_node(c, taken);
-  *taken = (struct node){value, 0, h->counter};
-  struct item *item = &c.items[h->items];
-  item->head = (uint32_t)(taken - c.nodes);
-  item->birth = h->counter;
+/* The item's unused word is not written: no page says that register sets it. */
+static struct answer register_item(struct catalogue catalogue, uint32_t value, uint32_t size) {
+  struct header *header = catalogue.header;
+  if (value >= header->projects) return refused(7);
+  if (header->items == header->items_limit) return refused(10);
+  if (no_node_left(header)) return refused(11);
+  if (node_damaged(header, node_to_take(catalogue))) return refused(2);
+  const uint32_t number = header->items;
+  struct item *item = &catalogue.items[number];
+  item->head = take_node(catalogue, (struct node){.value = value, .older = 0, .stamp = header->counter});
+  item->birth = header->counter;
   item->size = size;
-  return accepted(h->items++);
+  header->items += 1;
+  return accepted(number);
 }
 
-/* The first refusal by the item that a start names, its damage among them; 0: none. */
-static uint32_t item_refusal(struct catalogue c, uint32_t item) {
-  if (item >= c.header->items) return 6;
-  return item_damaged(c.header, &c.items[item]) ? 2 : 0;
+/* ---- Starts ---- */
+
+static uint32_t total_goes_to(uint32_t place, uint32_t noted) {
+  return place < noted ? TOTAL_ITEM_BEGINS : TOTAL_CLOSES;
 }
 
-static uint32_t start_refusal(struct catalogue c, const struct call *call) {
-  const struct header *h = c.header;
-  const uint32_t *a = call->argument;
-  if (call->kind == START_VREAD || call->kind == START_VCAS || call->kind == START_READ_SNAPSHOT) {
-    uint32_t number = item_refusal(c, a[1]);
-    if (number != 0) return number;
+/* The record that a start will write: the phase, the operation's arguments, and zero elsewhere. */
+static struct worker record_asked_for(const struct call *call, uint32_t items) {
+  const uint32_t *argument = call->argument + 1; /* the worker's number comes first */
+  switch (call->kind) {
+  case START_VREAD: return (struct worker){.phase = VREAD_BEGINS, .item = argument[0]};
+  case START_VCAS: return (struct worker){.phase = VCAS_BEGINS, .item = argument[0], .old = argument[1], .new = argument[2]};
+  case START_READ_SNAPSHOT: return (struct worker){.phase = READ_SNAPSHOT_BEGINS, .item = argument[0], .handle = argument[1]};
+  case START_TOTAL: return (struct worker){.phase = total_goes_to(0, items), .project = argument[0], .handle = argument[1], .noted = items};
+  default: return (struct worker){.phase = TAKE_SNAPSHOT_BEGINS};
   }
-  if (call->kind == START_VCAS && (a[2] >= h->projects || a[3] >= h->projects)) return 7;
-  if (call->kind == START_TOTAL && a[1] >= h->projects) return 7;
-  if ((call->kind == START_READ_SNAPSHOT || call->kind == START_TOTAL) && a[2] >= h->counter) return 8;
-  if (call->kind == START_READ_SNAPSHOT && a[2] < c.items[a[1]].birth) return 9;
+}
+
+/* Refusals 6 to 9, 0 if none applies. An argument that the operation does not have is 0, which is always a project number. */
+static uint32_t refusal_of_arguments(struct catalogue catalogue, const struct worker *asked) {
+  const struct header *header = catalogue.header;
+  const enum operation operation = phase_rows[asked->phase].operation;
+  const bool has_item = operation == VREAD || operation == VCAS || operation == READ_SNAPSHOT;
+  const bool has_handle = operation == READ_SNAPSHOT || operation == TOTAL;
+  if (has_item && asked->item >= header->items) return 6;
+  if (has_item && item_damaged(header, &catalogue.items[asked->item])) return 2;
+  if (asked->old >= header->projects || asked->new >= header->projects) return 7;
+  if (asked->project >= header->projects) return 7;
+  if (has_handle && asked->handle >= header->counter) return 8;
+  if (operation == READ_SNAPSHOT && asked->handle < catalogue.items[asked->item].birth) return 9;
   return 0;
 }
 
-static struct answer start(struct catalogue c, struct worker *w, const struct call *call) {
-  const uint32_t *a = call->argument;
-  if (w->phase != 0) return refused(4);
-  uint32_t number = start_refusal(c, call);
-  if (number != 0) return refused(number);
-  struct worker record = {0};
-  record.phase = first_phase[call->kind - START_VREAD + VREAD];
-  switch (call->kind) {
-    case START_VREAD: record.item = a[1]; break;
-    case START_VCAS: record.item = a[1], record.old = a[2], record.new = a[3]; break;
-    case START_READ_SNAPSHOT: record.item = a[1], record.handle = a[2]; break;
-    case START_TOTAL:
-      record.project = a[1], record.handle = a[2], record.noted = c.header->items;
-      if (record.noted == 0) record.phase = CLOSING;
-      break;
-    default: break;
-  }
-  *w = record;
+static struct answer start(struct catalogue catalogue, const struct call *call) {
+  const struct header *header = catalogue.header;
+  if (call->argument[0] >= header->workers) return refused(3);
+  struct worker *worker = &catalogue.workers[call->argument[0]];
+  if (worker_damaged(header, worker)) return refused(2);
+  if (worker->phase != 0) return refused(4);
+  const struct worker asked = record_asked_for(call, header->items);
+  const uint32_t refusal = refusal_of_arguments(catalogue, &asked);
+  if (refusal != 0) return refused(refusal);
+  *worker = asked;
   return accepted(0);
 }
 
-static struct answer step(struct catalogue c, struct worker *w) {
-  if (w->phase == 0) return refused(5);
-  if (inside_item(w->phase) && item_damaged(c.header, &c.items[w->item])) return refused(2);
-  if (node_words_damaged(c, w)) return refused(2);
-  return run_line(c, w);
+/* ---- Steps: one function for each line of Algorithm 1 ---- */
+
+/* A worker inside its operation; `item` is there inside an item only. */
+struct running {
+  struct catalogue catalogue;
+  const struct phase_row *row;
+  struct worker *worker;
+  struct item *item;
+};
+
+static struct node *node_of(const struct running *running) {
+  return &running->catalogue.nodes[running->worker->node];
 }
+
+static struct answer go_on(struct worker *worker, uint32_t phase) {
+  worker->phase = phase;
+  worker->steps += 1;
+  return (struct answer){.code = GORAVESHA_RUNNING, .value = 0, .steps = worker->steps};
+}
+
+static struct answer end(struct worker *worker, uint32_t code, uint64_t value) {
+  const uint64_t steps = (uint64_t)worker->steps + 1;
+  *worker = (struct worker){.phase = 0}; /* an idle worker's record is all zero */
+  return (struct answer){.code = code, .value = value, .steps = steps};
+}
+
+static struct answer finish(struct worker *worker, uint64_t value) {
+  return end(worker, GORAVESHA_FINISHED, value);
+}
+
+static struct answer line_5(struct header *header, struct worker *worker, uint32_t phase) {
+  if (header->counter == header->counter_limit) return end(worker, GORAVESHA_REFUSED + 12, 0);
+  worker->seen = header->counter;
+  return go_on(worker, phase);
+}
+
+/* One attempt; the number read is the answer whether or not it succeeded. */
+static struct answer line_6(struct header *header, struct worker *worker) {
+  if (header->counter == worker->seen) header->counter = worker->seen + 1;
+  return finish(worker, worker->seen);
+}
+
+static struct answer line_20(const struct running *running) {
+  const bool to_be_decided = node_of(running)->stamp == TBD;
+  return go_on(running->worker, to_be_decided ? running->row->goes_on : running->row->otherwise);
+}
+
+static struct answer line_21(const struct running *running) {
+  running->worker->seen = running->catalogue.header->counter;
+  return go_on(running->worker, running->row->goes_on);
+}
+
+static struct answer line_22(const struct running *running) {
+  struct node *node = node_of(running);
+  if (node->stamp == TBD) node->stamp = running->worker->seen; /* a valid stamp never changes */
+  return go_on(running->worker, running->row->goes_on);
+}
+
+static struct answer next_item(struct worker *worker) {
+  worker->item += 1;
+  return go_on(worker, total_goes_to(worker->item, worker->noted));
+}
+
+/* Lines 32, 37, 41 and 51 fetch the head. A total passes over an item born after its handle. */
+static struct answer fetch_head(const struct running *running) {
+  struct worker *worker = running->worker;
+  if (running->row->operation == TOTAL && running->item->birth > worker->handle) return next_item(worker);
+  worker->node = running->item->head;
+  return go_on(worker, running->row->goes_on);
+}
+
+/* One test: above the handle it moves to the older node, else it ends the reading of this item in the same step. */
+static struct answer line_34(const struct running *running) {
+  struct worker *worker = running->worker;
+  const struct node *node = node_of(running);
+  if (node->stamp > worker->handle) {
+    worker->node = node->older - 1;
+    return go_on(worker, running->row->goes_on);
+  }
+  if (running->row->operation == READ_SNAPSHOT) return finish(worker, node->value);
+  if (node->value == worker->project) {
+    const uint64_t low = (uint64_t)worker->sum_low + running->item->size;
+    worker->sum_low = (uint32_t)low;
+    worker->sum_high += (uint32_t)(low >> 32);
+  }
+  return next_item(worker);
+}
+
+/* Lines 43 and 44 together. */
+static struct answer line_43(const struct running *running) {
+  struct worker *worker = running->worker;
+  if (node_of(running)->value != worker->old) return finish(worker, 0);
+  if (worker->new == worker->old) return finish(worker, 1);
+  return go_on(worker, running->row->goes_on);
+}
+
+/* The new node is still to be decided: line 46 publishes it before any stamp. */
+static struct answer line_45(const struct running *running) {
+  struct worker *worker = running->worker;
+  if (no_node_left(running->catalogue.header)) return end(worker, GORAVESHA_REFUSED + 11, 0);
+  worker->new_node = take_node(running->catalogue, (struct node){.value = worker->new, .older = worker->node + 1, .stamp = TBD});
+  return go_on(worker, running->row->goes_on);
+}
+
+static struct answer line_46(const struct running *running) {
+  struct worker *worker = running->worker;
+  if (running->item->head != worker->node) return go_on(worker, running->row->otherwise);
+  running->item->head = worker->new_node;
+  worker->node = worker->new_node; /* H follows, on the new node */
+  return go_on(worker, running->row->goes_on);
+}
+
+static struct answer line_50(const struct running *running) {
+  struct header *header = running->catalogue.header;
+  const uint32_t number = running->worker->new_node;
+  running->catalogue.nodes[number].older = header->given_back;
+  header->given_back = number + 1;
+  return go_on(running->worker, running->row->goes_on);
+}
+
+static struct answer run_line(const struct running *running) {
+  struct header *header = running->catalogue.header;
+  struct worker *worker = running->worker;
+  switch (running->row->line) {
+  case 5: return line_5(header, worker, running->row->goes_on);
+  case 6: return line_6(header, worker);
+  case 20: return line_20(running);
+  case 21: return line_21(running);
+  case 22: return line_22(running);
+  case 34: return line_34(running);
+  case 39: return finish(worker, node_of(running)->value);
+  case 43: return line_43(running);
+  case 45: return line_45(running);
+  case 46: return line_46(running);
+  case 48: return finish(worker, 1);
+  case 50: return line_50(running);
+  case 52: return finish(worker, 0);
+  case 0: return finish(worker, running_sum(worker)); /* a total's closing step */
+  default: return fetch_head(running); /* 32, 37, 41, 51 */
+  }
+}
+
+/* The node words that the step's line reads or writes, and at 45 and 50 the first node given back. */
+static bool node_words_damaged(const struct running *running) {
+  const struct header *header = running->catalogue.header;
+  const struct worker *worker = running->worker;
+  struct node *nodes = running->catalogue.nodes;
+  switch (running->row->node_words) {
+  case ITS_STAMP: return stamp_damaged(header, node_of(running));
+  case ITS_VALUE: return value_damaged(header, node_of(running));
+  case NODE_TAKEN: return !no_node_left(header) && node_damaged(header, node_to_take(running->catalogue));
+  case NODES_GIVEN:
+    if (older_damaged(header, &nodes[worker->new_node])) return true;
+    return header->given_back != 0 && node_damaged(header, &nodes[header->given_back - 1]);
+  case NODE_TESTED: return tested_node_damaged(header, node_of(running), worker->handle);
+  default: return false;
+  }
+}
+
+static struct answer step(struct catalogue catalogue, uint32_t number) {
+  const struct header *header = catalogue.header;
+  if (number >= header->workers) return refused(3); /* before any record is looked at */
+  struct worker *worker = &catalogue.workers[number];
+  if (worker_damaged(header, worker)) return refused(2); /* right after 3 */
+  const struct phase_row *row = &phase_rows[worker->phase];
+  if (row->operation == IDLE) return refused(5);
+  struct item *item = inside_an_item(row) ? &catalogue.items[worker->item] : NULL;
+  if (item != NULL && item_damaged(header, item)) return refused(2);
+  const struct running running = {catalogue, row, worker, item};
+  if (node_words_damaged(&running)) return refused(2); /* a node's damage comes last */
+  return run_line(&running);
+}
+
+/* ---- The calls ---- */
 
 struct answer oracle_call(const struct call *call, uint32_t *words, size_t count) {
-  struct catalogue c;
   if (call->kind == MAKE) return make(words, count, call->argument);
-  if (!open_catalogue(words, count, &c)) return refused(2);
-  if (call->kind == REGISTER) return registers(c, call->argument[0], call->argument[1]);
-  if (call->argument[0] >= c.header->workers) return refused(3);
-  struct worker *w = &c.workers[call->argument[0]];
-  if (worker_damaged(c.header, w)) return refused(2);
-  return call->kind == STEP ? step(c, w) : start(c, w, call);
-}
-
-uint32_t archive_call(const struct call *call, uint32_t *words, size_t count, goravesha_answer *answer) {
-  const uint32_t *a = call->argument;
-  switch (call->kind) {
-    case MAKE: return goravesha_make(words, count, a[0], a[1], a[2], a[3], a[4], answer);
-    case REGISTER: return goravesha_register(words, count, a[0], a[1], answer);
-    case START_VREAD: return goravesha_start_vread(words, count, a[0], a[1], answer);
-    case START_VCAS: return goravesha_start_vcas(words, count, a[0], a[1], a[2], a[3], answer);
-    case START_TAKE_SNAPSHOT: return goravesha_start_take_snapshot(words, count, a[0], answer);
-    case START_READ_SNAPSHOT: return goravesha_start_read_snapshot(words, count, a[0], a[1], a[2], answer);
-    case START_TOTAL: return goravesha_start_total(words, count, a[0], a[1], a[2], answer);
-    default: return goravesha_step(words, count, a[0], answer);
-  }
+  if (header_damaged(words, count)) return refused(2); /* before everything else */
+  const struct catalogue catalogue = parts_of(words);
+  if (call->kind == REGISTER) return register_item(catalogue, call->argument[0], call->argument[1]);
+  if (call->kind == STEP) return step(catalogue, call->argument[0]);
+  return start(catalogue, call);
 }

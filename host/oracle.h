@@ -1,6 +1,6 @@
 /*
- * A second implementation of document 01 over the same words, in C: what the proved archive is compared with. It is written from document 01
- * and docs/FIELDS.md, in the reader's order of those pages, and shares nothing with the proved code but the header's numbers.
+ * A second implementation of document 01 over the same words, in C: what the proved archive is compared with. It is written from document
+ * 01 and docs/FIELDS.md, in the reader's order of those pages, and shares nothing with the proved code but the header's numbers.
  */
 #ifndef GORAVESHA_ORACLE_H
 #define GORAVESHA_ORACLE_H
@@ -22,13 +22,20 @@ struct answer {
 
 extern const char *const kind_name[KINDS];
 
-/* The same call on the proved archive, with the answer's four numbers as the archive wrote them, and on the oracle. */
+/*
+ * The same call on the proved archive (archive.c), with the answer's four numbers as the archive wrote them, and on the oracle (oracle.c,
+ * which needs no archive). The oracle takes any arguments on any words of any count, and touches no word but the first `count`.
+ */
 uint32_t archive_call(const struct call *call, uint32_t *words, size_t count, goravesha_answer *answer);
 struct answer oracle_call(const struct call *call, uint32_t *words, size_t count);
 
-/* What docs/FIELDS.md's table of phases says of a phase. */
+/*
+ * What docs/FIELDS.md's table of phases says of a phase. `kept` and `node_words` say what a step there uses (oracle.c names their numbers);
+ * it goes on at phase `goes_on`, or at `otherwise` where line 20 found a valid stamp or line 46 failed. Where a total goes on after an item
+ * depends on its place and stands in no column.
+ */
 struct phase_row {
-  unsigned char operation, line, may_answer, kept, node_words;
+  unsigned char operation, line, may_answer, kept, node_words, goes_on, otherwise;
 };
 enum { PHASES = 36 };
 extern const struct phase_row phase_rows[PHASES];

@@ -5,9 +5,9 @@ set -eu
 cd "$(dirname "$0")/.."
 seconds=${1:-30}
 seed=${2:-1}
-CFLAGS="-g -fsanitize=address,undefined -fno-sanitize-recover=all" bash host/build.sh hostile oracle tables
+CFLAGS="-g -fsanitize=address,undefined -fno-sanitize-recover=all" bash host/build.sh hostile archive oracle tables
 target/host/hostile -s 4 -x "$seed" > target/host/hostile.sanitized || { tail -n 40 target/host/hostile.sanitized; exit 1; }
-CFLAGS=-g bash host/build.sh hostile oracle tables
+CFLAGS=-g bash host/build.sh hostile archive oracle tables
 if command -v valgrind > /dev/null; then
   valgrind -q --error-exitcode=9 target/host/hostile -n 400000 -x "$seed" > target/host/hostile.valgrind || { tail -n 40 target/host/hostile.valgrind; exit 1; }
 fi
