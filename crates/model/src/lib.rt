@@ -1,9 +1,9 @@
-// A model of document 01's text, in other data structures than the catalogue's, to hold its answers against. It has no nodes
-// and no phases, and depends on none of the catalogue's crates. Every published version stands in one journal, in the order of
-// publication; a version is its place there. A node is only room for one version, so refusal 11 is a count: published and held
-// versions together fill the room. A read at a handle is not walked: its value and its number of tests are counted from the
-// journal when its help is over.
+// A model of document 01, for the soak program to compare the catalogue with. It keeps what document 01 promises, and not
+// how the paper's machine keeps it: for each item the history of its published versions, for each worker how many steps it
+// has done since it fetched a head, and one count of the nodes that are published or held.
+pub mod history;
 pub mod memory;
 pub mod setup;
 pub mod starts;
 pub mod steps;
+pub mod vcas;

@@ -1,18 +1,48 @@
-// The starts. Starting touches the worker's page alone, and is not a step.
-use crate::memory::{
-    get, of_item, of_worker, set_worker, BIRTH, COUNTER, HANDLE, ITEM, ITEMS, NEW, NOTED, OLD, OPERATION, PLACE, PROJECT, PROJECTS,
-    STAGE, STEPS, SUM, WORKERS,
-};
-use crate::setup::{accepted, is_unusable, refused, Reply};
-use crate::steps::{CLOSE, FETCH, FIRST, READ_COUNTER, READ_SNAPSHOT, RESTING, TAKE_SNAPSHOT, TOTAL, V_CAS, V_READ};
+// The starts of the five operations. "Starting touches the worker's record and is not a step."
+use crate::history::is_born_after;
+use crate::memory::COUNTER;
+use crate::memory::FETCH;
+use crate::memory::HANDLE;
+use crate::memory::ITEM;
+use crate::memory::ITEMS;
+use crate::memory::NEW;
+use crate::memory::NOTED;
+use crate::memory::OLD;
+use crate::memory::OPERATION;
+use crate::memory::OUTCOME;
+use crate::memory::PROJECT;
+use crate::memory::PROJECTS;
+use crate::memory::STEPS;
+use crate::memory::WORKERS;
+use crate::memory::field;
+use crate::memory::get;
+use crate::memory::set_field;
+use crate::setup::Reply;
+use crate::setup::done;
+use crate::setup::is_damaged;
+use crate::setup::refused;
 
+pub const V_READ: usize = 1;
+
+pub const V_CAS: usize = 2;
+
+pub const TAKE_SNAPSHOT: usize = 3;
+
+pub const READ_SNAPSHOT: usize = 4;
+
+pub const TOTAL: usize = 5;
+
+// Whether the worker is idle. A worker that is not there is in no operation.
 pub fn is_resting(memory: &[usize], worker: usize) -> bool {
-    of_worker(memory, worker, PLACE) == RESTING
+    if get(memory, WORKERS) <= worker {
+        return true;
+    }
+    field(memory, OPERATION, worker) == 0
 }
 
-// The first refusal of any start, 2, 3 or 4; 0 where there is none.
-fn start_refusal(memory: &[usize], lent: usize, worker: usize) -> usize {
-    if is_unusable(memory, lent) {
+// The refusals that every start shares, in the table's order: 2, 3, 4; 0 for none.
+fn refusal(memory: &[usize], lent: usize, worker: usize) -> usize {
+    if is_damaged(memory, lent) {
         return 2;
     }
     if get(memory, WORKERS) <= worker {
@@ -24,75 +54,99 @@ fn start_refusal(memory: &[usize], lent: usize, worker: usize) -> usize {
     4
 }
 
-// The same, then 6: the item's number is not registered.
-fn item_refusal(memory: &[usize], lent: usize, worker: usize, item: usize) -> usize {
-    let number = start_refusal(memory, lent, worker);
-    if number != 0 {
-        return number;
-    }
-    if get(memory, ITEMS) <= item {
-        return 6;
-    }
-    0
-}
-
-fn begin(memory: &mut [usize], worker: usize, operation: usize, place: usize, item: usize) -> Reply {
-    set_worker(memory, worker, OPERATION, operation);
-    set_worker(memory, worker, PLACE, place);
-    set_worker(memory, worker, STAGE, FIRST);
-    set_worker(memory, worker, STEPS, 0);
-    set_worker(memory, worker, ITEM, item);
-    accepted(0)
+// No step is done, and the first one is to fetch a head.
+fn begin(memory: &mut [usize], worker: usize, operation: usize) -> Reply {
+    set_field(memory, OPERATION, worker, operation);
+    set_field(memory, STEPS, worker, 0);
+    set_field(memory, FETCH, worker, 1);
+    set_field(memory, OUTCOME, worker, 0);
+    done(0)
 }
 
 pub fn v_read(memory: &mut [usize], lent: usize, worker: usize, item: usize) -> Reply {
-    let number = item_refusal(memory, lent, worker, item);
+    let number = refusal(memory, lent, worker);
     if number != 0 {
         return refused(number);
     }
-    begin(memory, worker, V_READ, FETCH, item)
+    if get(memory, ITEMS) <= item {
+        return refused(6);
+    }
+    set_field(memory, ITEM, worker, item);
+    begin(memory, worker, V_READ)
 }
 
-pub fn v_cas(memory: &mut [usize], lent: usize, worker: usize, item: usize, old: usize, new: usize) -> Reply {
-    let number = item_refusal(memory, lent, worker, item);
+// Refusal 7 is "a project number is Q or more": both of a vCAS's values are project numbers.
+pub fn v_cas(
+    memory: &mut [usize],
+    lent: usize,
+    worker: usize,
+    item: usize,
+    old: usize,
+    new: usize,
+) -> Reply {
+    let number = refusal(memory, lent, worker);
     if number != 0 {
         return refused(number);
+    }
+    if get(memory, ITEMS) <= item {
+        return refused(6);
     }
     let projects = get(memory, PROJECTS);
-    if (projects <= old) | (projects <= new) {
+    if projects <= old {
         return refused(7);
     }
-    set_worker(memory, worker, OLD, old);
-    set_worker(memory, worker, NEW, new);
-    begin(memory, worker, V_CAS, FETCH, item)
+    if projects <= new {
+        return refused(7);
+    }
+    set_field(memory, ITEM, worker, item);
+    set_field(memory, OLD, worker, old);
+    set_field(memory, NEW, worker, new);
+    begin(memory, worker, V_CAS)
 }
 
+// The counter is tested against C at line 5 and not here.
 pub fn take_snapshot(memory: &mut [usize], lent: usize, worker: usize) -> Reply {
-    let number = start_refusal(memory, lent, worker);
+    let number = refusal(memory, lent, worker);
     if number != 0 {
         return refused(number);
     }
-    begin(memory, worker, TAKE_SNAPSHOT, READ_COUNTER, 0)
+    begin(memory, worker, TAKE_SNAPSHOT)
 }
 
-pub fn read_snapshot(memory: &mut [usize], lent: usize, worker: usize, item: usize, handle: usize) -> Reply {
-    let number = item_refusal(memory, lent, worker, item);
+pub fn read_snapshot(
+    memory: &mut [usize],
+    lent: usize,
+    worker: usize,
+    item: usize,
+    handle: usize,
+) -> Reply {
+    let number = refusal(memory, lent, worker);
     if number != 0 {
         return refused(number);
+    }
+    if get(memory, ITEMS) <= item {
+        return refused(6);
     }
     if get(memory, COUNTER) <= handle {
         return refused(8);
     }
-    if handle < of_item(memory, item, BIRTH) {
+    if is_born_after(memory, item, handle) {
         return refused(9);
     }
-    set_worker(memory, worker, HANDLE, handle);
-    begin(memory, worker, READ_SNAPSHOT, FETCH, item)
+    set_field(memory, ITEM, worker, item);
+    set_field(memory, HANDLE, worker, handle);
+    begin(memory, worker, READ_SNAPSHOT)
 }
 
-// The number of items is noted at the start; with no item only the closing step is left.
-pub fn total(memory: &mut [usize], lent: usize, worker: usize, project: usize, handle: usize) -> Reply {
-    let number = start_refusal(memory, lent, worker);
+// "the number of items is noted at the start. Items go in ascending order".
+pub fn total(
+    memory: &mut [usize],
+    lent: usize,
+    worker: usize,
+    project: usize,
+    handle: usize,
+) -> Reply {
+    let number = refusal(memory, lent, worker);
     if number != 0 {
         return refused(number);
     }
@@ -102,13 +156,10 @@ pub fn total(memory: &mut [usize], lent: usize, worker: usize, project: usize, h
     if get(memory, COUNTER) <= handle {
         return refused(8);
     }
-    let items = get(memory, ITEMS);
-    set_worker(memory, worker, HANDLE, handle);
-    set_worker(memory, worker, PROJECT, project);
-    set_worker(memory, worker, NOTED, items);
-    set_worker(memory, worker, SUM, 0);
-    if items == 0 {
-        return begin(memory, worker, TOTAL, CLOSE, 0);
-    }
-    begin(memory, worker, TOTAL, FETCH, 0)
+    let noted = get(memory, ITEMS);
+    set_field(memory, NOTED, worker, noted);
+    set_field(memory, ITEM, worker, 0);
+    set_field(memory, PROJECT, worker, project);
+    set_field(memory, HANDLE, worker, handle);
+    begin(memory, worker, TOTAL)
 }
