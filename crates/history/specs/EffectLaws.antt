@@ -1,79 +1,98 @@
 -- Laws of the list of effects that hold of any notes: it is in time order, it has every birth, snapshot and stamp, and a value stays until the next
 -- effect.
-use mathlib.Core.Path.{_≡_, refl, ap, ap₂, sym, _∙_, subst}
+use mathlib.Core.Path.{_≡_, refl, ap₂, sym, _∙_, subst}
 use mathlib.Core.Logic.{inl, inr}
-use mathlib.Core.Bool.{Bool, true, false, cond, not, _&&_}
+use mathlib.Core.Bool.{cond}
 use mathlib.Core.List.{List, [], _∷_}
 use Prim.Native.Nat.{ℕ, _≤_, _<_}
 use native.Mathlib.Omega.{arith}
-use lib.Dec.{T, leb, leb→le, nleb→lt}
+use lib.Dec.{leb}
 use lib.ListN.{length}
-use Rattle.history.specs.Notes.{Ending, Note}
+use Rattle.history.specs.Tools.{put, put-all, put-both, by-le}
+use Rattle.history.specs.Definition1.{Object, apply, Follows}
+use Rattle.history.specs.Notes.{Ending, Note, Effect, birth, change, snapshot, time, object-at}
+use Rattle.history.specs.Effects.{insert, last-step, last-published, effects}
 use Rattle.history.specs.Notes as Notes
-use Rattle.history.specs.Effects.{Effect, birth, change, snapshot, last-step, last-published, deed-effect, note-effect, insert-all, effects,
-    on-item, new-value, value-at}
-use Rattle.history.specs.Statements.{Noted, Among}
-use Rattle.history.specs.EffectList.{Ordered, among-insert, insert-among, insert-ordered}
+use Rattle.history.specs.Statements.{In, Falling}
+use Rattle.history.specs.EffectList.{Gives, among-insert, insert-among, insert-ordered}
+
+-- what the newest note makes of the list: nothing, or one insertion
+module _ (P : List Note → List Effect → Type 0) (empty : P [] [])
+    (same : (x : Note) (past : List Note) → P past (effects past) → P (x ∷ past) (effects past))
+    (more : (x : Note) (past : List Note) (y : Effect) → P past (effects past) → P (x ∷ past) (insert y (effects past))) where
+  pub by-notes : (run : List Note) → P run (effects run)
+  unfolding effects
+  by-notes [] = empty
+  by-notes (Notes.refused ∷ past) = same _ past (by-notes past)
+  by-notes (Notes.registered i v s ∷ past) = more _ past _ (by-notes past)
+  by-notes (Notes.started w op ∷ past) = same _ past (by-notes past)
+  by-notes (Notes.stepped w line (Notes.fetches i b) e ∷ past) = same _ past (by-notes past)
+  by-notes (Notes.stepped w line (Notes.publishes i v) e ∷ past) = same _ past (by-notes past)
+  by-notes (Notes.stepped w line (Notes.stamps i v) e ∷ past) = more _ past _ (by-notes past)
+  by-notes (Notes.stepped w line (Notes.moves h) e ∷ past) = more _ past _ (by-notes past)
+  by-notes (Notes.stepped w line Notes.nothing e ∷ past) = same _ past (by-notes past)
 
 -- ---- the newest first
 
-all-ordered : (xs l : List Effect) → Ordered l → Ordered (insert-all xs l)
-unfolding insert-all
-all-ordered [] l o = o
-all-ordered (x ∷ xs) l o = insert-ordered x (insert-all xs l) (all-ordered xs l o)
-
-pub effects-ordered : (run : List Note) → Ordered (effects run)
-unfolding effects
-effects-ordered [] = tt
-effects-ordered (x ∷ past) = all-ordered (note-effect past x) (effects past) (effects-ordered past)
+pub effects-ordered : (run : List Note) → Falling time (effects run)
+effects-ordered = by-notes (λ run l. Falling time l) tt (λ x past o. o) (λ x past y o. insert-ordered y (effects past) o)
 
 -- ---- every birth, snapshot and stamp is there
 
-kept : (y : Effect) (xs l : List Effect) → Among y l → Among y (insert-all xs l)
-unfolding insert-all
-kept y [] l a = a
-kept y (x ∷ xs) l a = among-insert x y (insert-all xs l) (kept y xs l a)
+-- one more note keeps what was there
+kept : (y : Effect) (x : Note) (past : List Note) → In y (effects past) → In y (effects (x ∷ past))
+unfolding effects
+kept y Notes.refused past a = a
+kept y (Notes.registered i v s) past a = among-insert _ y (effects past) a
+kept y (Notes.started w op) past a = a
+kept y (Notes.stepped w line (Notes.fetches i b) e) past a = a
+kept y (Notes.stepped w line (Notes.publishes i v) e) past a = a
+kept y (Notes.stepped w line (Notes.stamps i v) e) past a = among-insert _ y (effects past) a
+kept y (Notes.stepped w line (Notes.moves h) e) past a = among-insert _ y (effects past) a
+kept y (Notes.stepped w line Notes.nothing e) past a = a
 
 -- what a note brings stays in the longer list
-brought : (y : Effect) (x : Note) (past run : List Note) → note-effect past x ≡ y ∷ [] → Noted x past run → Among y (effects run)
-unfolding effects insert-all
-brought y x past [] e n = absurd n
-brought y x past (z ∷ l) e (inr n) = kept y (note-effect l z) (effects l) (brought y x past l e n)
-brought y x past (z ∷ l) e (inl (p, q)) = subst (λ (xs : List Effect). Among y (insert-all xs (effects l)))
-    (sym e ∙ ap₂ (λ (past : List Note) (x : Note). note-effect past x) q p) (insert-among y (effects l))
+brought : (y : Effect) (x : Note) (past run : List Note) → In y (effects (x ∷ past)) → Follows x past run → In y (effects run)
+brought y x past [] a n = absurd n
+brought y x past (z ∷ l) a (inr n) = kept y z l (brought y x past l a n)
+brought y x past (z ∷ l) a (inl (p, q)) = subst (λ (l : List Note). In y (effects l)) (ap₂ (λ (x : Note) (l : List Note). x ∷ l) p q) a
 
-pub birth-among : (i v s : ℕ) (past run : List Note) → Noted (Notes.registered i v s) past run → Among (record { time = length past; what = birth i v s })
-    (effects run)
-unfolding note-effect
-birth-among i v s past run n = brought (record { time = length past; what = birth i v s }) (Notes.registered i v s) past run refl n
+pub birth-among : (i v s : ℕ) (past run : List Note) → Follows (Notes.registered i v s) past run → In (birth (length past) i v s) (effects run)
+unfolding effects
+birth-among i v s past run n = brought _ (Notes.registered i v s) past run (insert-among (birth (length past) i v s) (effects past)) n
 
-pub snapshot-among : (w line h : ℕ) (e : Ending) (past run : List Note) → Noted (Notes.stepped w line (Notes.moves h) e) past run →
-    Among (record { time = length past; what = snapshot h }) (effects run)
-unfolding note-effect deed-effect
-snapshot-among w line h e past run n = brought (record { time = length past; what = snapshot h }) (Notes.stepped w line (Notes.moves h) e) past run refl n
+pub snapshot-among : (w line h : ℕ) (e : Ending) (past run : List Note) → Follows (Notes.stepped w line (Notes.moves h) e) past run →
+    In (snapshot (length past) h) (effects run)
+unfolding effects
+snapshot-among w line h e past run n = brought _ (Notes.stepped w line (Notes.moves h) e) past run
+    (insert-among (snapshot (length past) h) (effects past)) n
 
-pub change-among : (w line i v : ℕ) (e : Ending) (past run : List Note) → Noted (Notes.stepped w line (Notes.stamps i v) e) past run →
-  Among (record { time = last-step w past; what = change i v (last-published i past) }) (effects run)
-unfolding note-effect deed-effect
-change-among w line i v e past run n = brought (record { time = last-step w past; what = change i v (last-published i past) })
-    (Notes.stepped w line (Notes.stamps i v) e) past run refl n
+pub change-among : (w line i v : ℕ) (e : Ending) (past run : List Note) → Follows (Notes.stepped w line (Notes.stamps i v) e) past run →
+  In (change (last-step w past) i v (last-published i past)) (effects run)
+unfolding effects
+change-among w line i v e past run n =
+    brought _ (Notes.stepped w line (Notes.stamps i v) e) past run
+        (insert-among (change (last-step w past) i v (last-published i past)) (effects past)) n
 
 -- ---- a value stays until the next effect on its item
 
-pub value-stays : (i τ τ' : ℕ) → τ ≤ τ' → (l : List Effect) → ((x : Effect) → Among x l → T (on-item i (x .what)) → τ < x .time → x .time ≤ τ' → ⊥) →
-    value-at l i τ' ≡ value-at l i τ
-unfolding value-at
+pub value-stays : (i τ τ' : ℕ) → τ ≤ τ' → (l : List Effect) → ((x : Effect) → In x l → (v : ℕ) → Gives i v x → τ < time x → time x ≤ τ' → ⊥) →
+    object-at τ' l .value i ≡ object-at τ l .value i
+unfolding object-at apply
 value-stays i τ τ' p [] h = refl
-value-stays i τ τ' p (x ∷ l) h = at (value-stays i τ τ' p l (λ y a. h y (inr a))) (on-item i (x .what)) refl (leb (x .time) τ') refl (leb (x .time) τ) refl
+value-stays i τ τ' p (x ∷ l) h = at x (h x (inl refl)) (value-stays i τ τ' p l (λ y a. h y (inr a)))
   where
-    le : (a b : ℕ) (c : Bool) → leb a b ≡ c → T c → a ≤ b
-    le a b c e t = leb→le a b (subst T (sym e) t)
-    gt : (a b : ℕ) (c : Bool) → leb a b ≡ c → T (not c) → b < a
-    gt a b c e t = nleb→lt a b (subst (λ (c : Bool). T (not c)) (sym e) t)
-    at : value-at l i τ' ≡ value-at l i τ → (o : Bool) → on-item i (x .what) ≡ o → (b : Bool) → leb (x .time) τ' ≡ b → (c : Bool) → leb (x .time) τ ≡ c →
-        cond (b && o) (new-value (x .what)) (value-at l i τ') ≡ cond (c && o) (new-value (x .what)) (value-at l i τ)
-    at h' o u true e true f = ap (λ (z : ℕ). cond o (new-value (x .what)) z) h'
-    at h' o u false e false f = h'
-    at h' false u true e false f = h'
-    at h' true u true e false f = absurd (h x (inl refl) (subst T (sym u) tt) (gt (x .time) τ false f tt) (le (x .time) τ' true e tt))
-    at h' o u false e true f = absurd (omega (arith, gt (x .time) τ' false e tt, le (x .time) τ true f tt))
+    -- item k gets the value v at t
+    given : (t k v : ℕ) → ((u : ℕ) → (i ≡ k) × (u ≡ v) → τ < t → t ≤ τ' → ⊥) → (x' x n' n : Object) → n' .value i ≡ put (x' .value) k v i →
+        n .value i ≡ put (x .value) k v i → x' .value i ≡ x .value i → cond (leb t τ') n' x' .value i ≡ cond (leb t τ) n x .value i
+    given t k v f x' x n' n a b e =
+        by-le (λ (y : Object). y .value i ≡ cond (leb t τ) n x .value i) t τ'
+          (λ r. by-le (λ (y : Object). n' .value i ≡ y .value i) t τ
+            (λ q. a ∙ put-both (λ (j y z : ℕ). y ≡ z) (x' .value) (x .value) k v v i (λ z. refl) (λ z. e) ∙ sym b)
+            (λ q. a ∙ put-all (λ (j y : ℕ). y ≡ x .value i) (x' .value) k v i (λ z. absurd (f v (z, refl) q r)) (λ z. e)))
+          (λ r. by-le (λ (y : Object). x' .value i ≡ y .value i) t τ (λ q. absurd (omega arith)) (λ q. e))
+    at : (x : Effect) → ((v : ℕ) → Gives i v x → τ < time x → time x ≤ τ' → ⊥) → object-at τ' l .value i ≡ object-at τ l .value i →
+        object-at τ' (x ∷ l) .value i ≡ object-at τ (x ∷ l) .value i
+    at (birth t k v s) f e = given t k v f (object-at τ' l) (object-at τ l) _ _ refl refl e
+    at (change t k v q) f e = given t k v f (object-at τ' l) (object-at τ l) _ _ refl refl e
+    at (snapshot t k) f e = e

@@ -1,145 +1,161 @@
 -- Totals for the notes of every run of the machine of versions: the sum over all items when the counter left the handle, and its lines item by item.
 use mathlib.Core.Path.{_≡_, refl, ap, sym, _∙_, subst}
 use mathlib.Core.Logic.{_≢_}
-use mathlib.Core.Bool.{Bool, true, false, cond, _&&_, true≢false}
+use mathlib.Core.Bool.{Bool, true, false, cond, true≢false}
 use mathlib.Core.List.{List, _++_}
-use Prim.Native.Nat.{ℕ, zero, suc, pred, _+_, _≤_, _<_}
+use Prim.Native.Nat.{ℕ, zero, suc, _+_, _≤_, _<_}
 use native.Mathlib.Omega.{arith}
-use lib.Dec.{T, ltb, leb, eqb, leb→le}
+use lib.Dec.{leb}
 use lib.ListN.{length}
 use Rattle.definitions.specs.Calls.{Call}
-use Rattle.history.specs.Tools.{by-lt, Split, split, Same, eq, ne, same?, lt-ltb, le-leb}
-use Rattle.history.specs.Definition1.{Operation, total}
-use Rattle.history.specs.Notes.{Note}
-use Rattle.history.specs.Ledger.{Fate, ledger, read-lines}
-use Rattle.history.specs.Effects.{effects, value-at, changed-between, count-if, total-at}
-use Rattle.history.specs.Statements.{TotalLines, no-item, born-later, read, ExactTotal}
+use Rattle.history.specs.Tools.{by-le, Split, split, Same, eq, ne, same?}
+use Rattle.history.specs.Definition1.{Operation, register, total, apply, empty}
+use Rattle.history.specs.Notes.{Note, ledger, Effect, object-at, changes-between}
+use Rattle.history.specs.Effects.{effects}
+use Rattle.history.specs.Notes as Notes
+use Rattle.history.specs.Statements.{read-lines, TotalLines, no-item, born-later, read, ExactTotal}
 use Rattle.history.specs.Machine.{Limits, Place, unplaced, awaits, changes, observes, Catalogue, after-calls}
-use Rattle.history.specs.Facts.{Sum, empty, skip, plus, Read}
 use Rattle.history.specs.RightAnswers.{RightAnswer, TotalRead, AtLastStep}
 use Rattle.history.specs.Places.{ObserverRight, PlaceRight, Invariant}
 use Rattle.history.specs.Run.{run-right}
-use Rattle.history.specs.OrderList.{effects-rise}
-use Rattle.history.specs.OrderShown.{operation-tag, asked-tag, change-operation}
+use Rattle.history.specs.OrderList.{Shot}
+use Rattle.history.specs.OrderShown.{operation-tag, asked-tag, change-operation, total-seen}
 use Rattle.history.specs.NodeCount.{sum-to, tally, limits-kept}
 use Rattle.history.specs.StepCount.{total-bound}
 use Rattle.history.specs.MachineNotes.{machine-notes}
-use Rattle.history.specs.LedgerRight.{Agrees, agrees}
+use Rattle.history.specs.LedgerRight.{is-answer, Agrees, agrees}
 use Rattle.history.specs.ExactReads.{value-seen, passed-is}
+use Rattle.history.specs.EffectList.{Sized, size-is}
+use Rattle.history.specs.EffectsRight.{version-effect, IsEffect, of-version, of-counter, born-by}
 use Rattle.history.specs.EffectsRun.{Effected, effected}
 use Rattle.history.specs.TotalTrace.{TotalTrace, none, skips, reads, TotalEnd, EndTotal}
 use Rattle.history.specs.TotalRun.{total-run}
 
-both-true : (a b : Bool) (s : ℕ) → T a → cond (a && b) s 0 ≡ cond b s 0
-both-true true b s t = refl
-both-true false b s t = absurd t
-
-first-false : (a b : Bool) (s : ℕ) → (T a → ⊥) → cond (a && b) s 0 ≡ 0
-first-false true b s f = absurd (f tt)
-first-false false b s f = refl
-
--- ones below k, and zeros from there on
-ones : {g : ℕ → ℕ} (k n : ℕ) → k ≤ n → ((y : ℕ) → y < k → g y ≡ 1) → ((y : ℕ) → k ≤ y → y < n → g y ≡ 0) → sum-to g n ≡ k
+-- how many of rising numbers are up to τ: the first so many
+risen : (b : ℕ → ℕ) (τ n : ℕ) (g : ℕ → ℕ) → ((i : ℕ) → g i ≡ cond (leb (b i) τ) 1 0) → ((i j : ℕ) → i < j → j < n → b i ≤ b j) →
+    (sum-to g n ≤ n) × ((i : ℕ) → i < sum-to g n → b i ≤ τ) × ((i : ℕ) → sum-to g n ≤ i → i < n → τ < b i)
 unfolding sum-to
-ones {g} k zero p a b = omega arith
-ones {g} k (suc n) p a b = at (same? k (suc n)) (ones {g = g} (pred k) n) (ones {g = g} k n)
+risen b τ zero g e up = (omega arith, λ i p. absurd (omega arith), λ i p q. absurd (omega arith))
+risen b τ (suc n) g e up = at (risen b τ n g e (λ i j p q. up i j p (omega arith)))
   where
-    at : Same k (suc n) → (pred k ≤ n → ((y : ℕ) → y < pred k → g y ≡ 1) → ((y : ℕ) → pred k ≤ y → y < n → g y ≡ 0) → sum-to g n ≡ pred k) →
-      (k ≤ n → ((y : ℕ) → y < k → g y ≡ 1) → ((y : ℕ) → k ≤ y → y < n → g y ≡ 0) → sum-to g n ≡ k) → g n + sum-to g n ≡ k
-    at (eq e) f h = omega (arith, f (omega arith) (λ y q. a y (omega arith)) (λ y q r. absurd (omega arith)), a n (omega arith))
-    at (ne e) f h = omega (arith, h (omega arith) a (λ y q r. b y q (omega arith)), b n (omega arith) (omega arith))
+    at : (sum-to g n ≤ n) × ((i : ℕ) → i < sum-to g n → b i ≤ τ) × ((i : ℕ) → sum-to g n ≤ i → i < n → τ < b i) →
+        (g n + sum-to g n ≤ suc n) × ((i : ℕ) → i < g n + sum-to g n → b i ≤ τ) × ((i : ℕ) → g n + sum-to g n ≤ i → i < suc n → τ < b i)
+    at (few, low, high) =
+        subst (λ (k : ℕ). (k + sum-to g n ≤ suc n) × ((i : ℕ) → i < k + sum-to g n → b i ≤ τ) × ((i : ℕ) → k + sum-to g n ≤ i → i < suc n → τ < b i))
+            (sym (e n))
+          (by-le (λ (k : ℕ). (k + sum-to g n ≤ suc n) × ((i : ℕ) → i < k + sum-to g n → b i ≤ τ) ×
+            ((i : ℕ) → k + sum-to g n ≤ i → i < suc n → τ < b i)) (b n) τ
+            (λ p. (omega arith, λ i q. until p i q (split i n), λ i q r. absurd (beyond p i q r (split (sum-to g n) n))))
+            (λ p. (omega arith, λ i q. low i (omega arith), λ i q r. from p i (omega arith) r (same? i n))))
+      where
+        until : b n ≤ τ → (i : ℕ) → i < 1 + sum-to g n → Split i n → b i ≤ τ
+        until p i q (Split.less r) = omega (arith, up i n r (omega arith))
+        until p i q (Split.more r) = let z : i ≡ n = omega arith in omega (arith, ap b z)
+        beyond : b n ≤ τ → (i : ℕ) → 1 + sum-to g n ≤ i → i < suc n → Split (sum-to g n) n → ⊥
+        beyond p i q r (Split.less z) = omega (arith, high (sum-to g n) (omega arith) z, up (sum-to g n) n z (omega arith))
+        beyond p i q r (Split.more z) = omega arith
+        from : τ < b n → (i : ℕ) → sum-to g n ≤ i → i < suc n → Same i n → τ < b i
+        from p i q r (eq z) = omega (arith, ap b z)
+        from p i q r (ne z) = high i q (omega arith)
+
+module _ (s : Catalogue) (invariant : Invariant s) (run : List Note) (E : Effected s run) where
+  -- the items of the object at τ are those born up to then
+  abbrev born-at : ℕ → ℕ
+  born-at i = s .memory .item i .effect-at 0
+
+  known-items : (τ : ℕ) → (object-at τ (effects run) .items ≤ s .memory .items) × ((i : ℕ) → i < object-at τ (effects run) .items → born-at i ≤ τ)
+      × ((i : ℕ) → object-at τ (effects run) .items ≤ i → i < s .memory .items → τ < born-at i)
+  known-items τ =
+      subst (λ (k : ℕ). (k ≤ s .memory .items) × ((i : ℕ) → i < k → born-at i ≤ τ) × ((i : ℕ) → k ≤ i → i < s .memory .items → τ < born-at i))
+        (sym (E .memory .items τ)) (risen born-at τ (s .memory .items) (born-by τ (s .memory)) one-each rising)
+    where
+      one-each : (i : ℕ) → born-by τ (s .memory) i ≡ cond (leb (born-at i) τ) 1 0
+      one-each i = unfold object-at apply in (at (leb (born-at i) τ))
+        where
+          at : (b : Bool) → cond b (apply (register i (s .memory .item i .value 0) (s .memory .item i .size)) empty) empty .items ≡ cond b 1 0
+          at true = unfold apply in refl
+          at false = refl
+      rising : (i j : ℕ) → i < j → j < s .memory .items → born-at i ≤ born-at j
+      rising i j p q = omega (arith, invariant .kept .memory .births i j p q, invariant .kept .memory .item i .birth
+          (invariant .kept .memory .registered i (omega arith)), invariant .kept .memory .item j .birth (invariant .kept .memory .registered j q))
+
+  -- the object when the counter left h
+  shot : (h : ℕ) → Shot s invariant h (object-at (s .memory .camera .left-at h) (effects run))
+  shot h =
+      record {
+        value = λ i j x. value-seen s invariant run E i (s .memory .camera .left-at h) j x;
+        low = known .1;
+        have = λ i p. have i p;
+        high = λ i p q. known .2 i p (there i q (split i (s .memory .items)));
+        sizes = λ i p. size-is i (s .memory .camera .left-at h) (s .memory .item i .size) (version-effect (s .memory .item i) i 0) (effects run)
+            (E .memory .versions i 0 (have i p)) (known .1 i p) (refl, refl) (λ y a u c. sized i y u (E .memory .only y a) c) }
+    where
+      known : (object-at (s .memory .camera .left-at h) (effects run) .items ≤ s .memory .items)
+          × ((i : ℕ) → i < object-at (s .memory .camera .left-at h) (effects run) .items → born-at i ≤ s .memory .camera .left-at h)
+          × ((i : ℕ) → object-at (s .memory .camera .left-at h) (effects run) .items ≤ i → i < s .memory .items → s .memory .camera .left-at h <
+            born-at i)
+      known = known-items (s .memory .camera .left-at h)
+      have : (i : ℕ) → i < object-at (s .memory .camera .left-at h) (effects run) .items → 0 < s .memory .item i .valid
+      have i p = invariant .kept .memory .registered i (omega (arith, known .0))
+      there : (i : ℕ) → 0 < s .memory .item i .valid → Split i (s .memory .items) → i < s .memory .items
+      there i q (Split.less p) = p
+      there i q (Split.more p) = absurd (omega (arith, invariant .kept .memory .unregistered i p, invariant .kept .memory .item i .valid-published))
+      sized : (i : ℕ) (y : Effect) (u : ℕ) → IsEffect (s .memory) y → Sized i u y → u ≡ s .memory .item i .size
+      sized i y u (of-counter k p e) c = absurd (subst (λ (y : Effect). Sized i u y) e c)
+      sized i y u (of-version n zero p e) c =
+          let z : (i ≡ n) × (u ≡ s .memory .item n .size) = subst (λ (y : Effect). Sized i u y) e c in
+          z .1 ∙ ap (λ (n : ℕ). s .memory .item n .size) (sym (z .0))
+      sized i y u (of-version n (suc j) p e) c = absurd (subst (λ (y : Effect). Sized i u y) e c)
 
 module _ (s : Catalogue) (invariant : Invariant s) (run : List Note) (E : Effected s run) (q h : ℕ) (gone : h < s .memory .camera .counter) where
-  -- what the total has of an item
-  share : ℕ → ℕ
-  share i = cond (leb (s .memory .item i .effect-at 0) (s .memory .camera .left-at h) && eqb (value-at (effects run) i (s .memory .camera .left-at h)) q)
-      (s .memory .item i .size) 0
-
-  not-born : (i : ℕ) → s .memory .camera .left-at h < s .memory .item i .effect-at 0 → share i ≡ 0
-  unfolding share
-  not-born i p = first-false (leb (s .memory .item i .effect-at 0) (s .memory .camera .left-at h)) _ (s .memory .item i .size)
-      (λ t. absurd (omega (arith, leb→le (s .memory .item i .effect-at 0) (s .memory .camera .left-at h) t)))
-
-  born : (i j : ℕ) {o e : ℕ} {l : List ℕ} → Read (s .memory) i h o e j l → s .memory .item i .effect-at 0 ≤ s .memory .camera .left-at h
-  born i j x = at (same? 0 j)
-    where
-      at : Same 0 j → s .memory .item i .effect-at 0 ≤ s .memory .camera .left-at h
-      at (eq z) = omega (arith, x .sees .begun, ap (s .memory .item i .effect-at) z)
-      at (ne z) = omega (arith, x .sees .begun, effects-rise s invariant i 0 j (omega arith) (x .sees .have))
-
-  shared : (i j : ℕ) {o e : ℕ} {l : List ℕ} → Read (s .memory) i h o e j l → share i ≡ cond (eqb (s .memory .item i .value j) q)
-      (s .memory .item i .size) 0
-  unfolding share
-  shared i j x =
-      both-true (leb (s .memory .item i .effect-at 0) (s .memory .camera .left-at h)) _ (s .memory .item i .size) (le-leb _ _ (born i j x))
-        ∙ ap (λ (v : ℕ). cond (eqb v q) (s .memory .item i .size) 0) (value-seen s invariant run E i (s .memory .camera .left-at h) j (x .sees))
-
-  -- the sum is that of the shares
-  sum-is : {o e i u : ℕ} {l : List ℕ} → Sum (s .memory) q h o e i u l → u ≡ sum-to share i
-  unfolding sum-to
-  sum-is empty = refl
-  sum-is (skip {i} {u} {l} z x y) = omega (arith, sum-is y, not-born i (invariant .kept .memory .item i .counted 0 z .past h x))
-  sum-is (plus {i} {u} {l} j r x y) = omega (arith, sum-is y, shared i j x)
-
-  -- items beyond those noted were born later
-  all-items : (k n : ℕ) → k ≤ n → ((y : ℕ) → k ≤ y → y < n → s .memory .camera .left-at h < s .memory .item y .effect-at 0) →
-      sum-to share n ≡ sum-to share k
-  unfolding sum-to
-  all-items k zero p f = let z : 0 ≡ k = omega arith in ap (sum-to share) z
-  all-items k (suc n) p f = at (all-items k n) (same? k (suc n))
-    where
-      at : (k ≤ n → ((y : ℕ) → k ≤ y → y < n → s .memory .camera .left-at h < s .memory .item y .effect-at 0) → sum-to share n ≡ sum-to share k) →
-          Same k (suc n) → share n + sum-to share n ≡ sum-to share k
-      at g (eq e) = unfold sum-to in (ap (sum-to share) (sym e))
-      at g (ne e) = omega (arith, g (omega arith) (λ y u v. f y u (omega arith)), not-born n (f n (omega arith) (omega arith)))
-
   -- the lines, item by item
-  lines-are : {o e i g : ℕ} {l : List ℕ} → TotalTrace (s .memory) run h o e i l g → TotalLines run (s .memory .camera .left-at h) o i l g
+  lines-are : {o e i g : ℕ} {l : List ℕ} → TotalTrace (s .memory) run h o e i l g → TotalLines run (effects run) (s .memory .camera .left-at h) o i l
+      g
   lines-are none = no-item
   lines-are (skips {i} {g} {l} f y p z x r) =
       born-later {i = i} f (s .memory .item i .effect-at 0) (s .memory .item i .value 0) (s .memory .item i .size) y p (E .memory .versions i 0 z)
         (invariant .kept .memory .item i .counted 0 z .past h x) (lines-are r)
   lines-are {o} {e} (reads {i} {g} {l} f y p j r x w z) =
-      subst (λ (r : List ℕ). TotalLines run (s .memory .camera .left-at h) o (suc i) (r ++ l) f)
-        (ap (read-lines (x .tbd)) (ap (λ (f : ℕ). count-if (changed-between i (s .memory .camera .left-at h) f) (effects run)) (sym w)
+      subst (λ (r : List ℕ). TotalLines run (effects run) (s .memory .camera .left-at h) o (suc i) (r ++ l) f)
+        (ap (read-lines (x .tbd)) (ap (λ (f : ℕ). changes-between i (s .memory .camera .left-at h) f (effects run)) (sym w)
           ∙ passed-is s invariant run E i h o e j r x) ∙ sym (x .lines))
         (read {i = i} f (x .tbd) y p (lines-are z))
 
-  exact-total : (A : Agrees s run) (o τ x e : ℕ) → TotalEnd (s .memory) run h o e (s .fate o .lines) → s .fate o .answer ≡ x → τ ≡ s .fate o .ended-at →
-      TotalRead (s .memory) q h o (s .fate o .lines) τ x →
-      ExactTotal run o q h
-  exact-total A o τ x e D a b R =
+  exact-total : (A : Agrees s run) (o τ x e : ℕ) → TotalEnd (s .memory) run h o e (s .fate o .lines) → s .fate o .operation ≡ total q h →
+      s .fate o .done ≡ true → TotalRead (s .memory) q h o (s .fate o .lines) τ x → ExactTotal run (effects run) o q h x
+  exact-total A o τ x e D w d R =
       record {
         left = s .memory .camera .left-at h; taken = E .memory .snapshots h gone;
-        answer = ap (λ (f : Fate). f .answer) (A .fate o) ∙ a ∙ sum-is (R .sum) ∙ sym (all-items (R .k) (s .memory .items) (R .registered) later) ∙ shares;
-        items = D .k; lines = D .done; last = D .g; each = lines-are (D .trace); closing = ap (λ (f : Fate). f .lines) (A .fate o) ∙ D .lines;
-        noted = same (split (D .k) (R .k)) (split (R .k) (D .k)) ∙ sym (ones (R .k) (s .memory .items) (R .registered) young old)
-          ∙ sym (E .memory .births (λ t i v z. cond (ltb t o) 1 0)) }
+        answer = total-seen s invariant q h o (s .fate o .lines) τ x R (object-at (s .memory .camera .left-at h) (effects run))
+            (shot s invariant run E h);
+        lines = (D .done, D .g,
+          subst (λ (k : ℕ). TotalLines run (effects run) (s .memory .camera .left-at h) o k (D .done) (D .g))
+            (same (split (D .k) (object-at o (effects run) .items)) (split (object-at o (effects run) .items) (D .k))) (lines-are (D .trace)),
+          A .fate o .done d .1 ∙ D .lines) }
     where
-      -- the number noted is the one that the sum is over
-      same : Split (D .k) (R .k) → Split (R .k) (D .k) → D .k ≡ R .k
-      same (Split.less u) v = absurd (omega (arith, R .noted (D .k) u, D .covers (D .k) (omega arith) (R .have (D .k) u)))
-      same (Split.more u) (Split.less v) = absurd (omega (arith, D .noted (R .k) v, R .covers (R .k) (omega arith) (D .have (R .k) v)))
+      known : (object-at o (effects run) .items ≤ s .memory .items) ×
+          ((i : ℕ) → i < object-at o (effects run) .items → s .memory .item i .effect-at 0 ≤ o)
+          × ((i : ℕ) → object-at o (effects run) .items ≤ i → i < s .memory .items → o < s .memory .item i .effect-at 0)
+      known = known-items s invariant run E o
+      -- a total registers no item
+      not-born : (i : ℕ) → 0 < s .memory .item i .valid → s .memory .item i .author 0 ≢ o
+      not-born i p z = let t : _≡_ {A = ℕ} 0 5 = ap operation-tag
+          (sym (invariant .kept .versions-right i 0 (omega (arith, invariant .kept .memory .item i .valid-published)) .asked)
+          ∙ ap (λ (o : ℕ). s .fate o .operation) z ∙ w) in omega arith
+      there : (i : ℕ) → 0 < s .memory .item i .valid → Split i (s .memory .items) → i < s .memory .items
+      there i p (Split.less u) = u
+      there i p (Split.more u) = absurd (omega (arith, invariant .kept .memory .unregistered i u, invariant .kept .memory .item i .valid-published))
+      same : Split (D .k) (object-at o (effects run) .items) → Split (object-at o (effects run) .items) (D .k) → D .k ≡ object-at o
+          (effects run) .items
+      same (Split.less u) v =
+          let p : 0 < s .memory .item (D .k) .valid = invariant .kept .memory .registered (D .k) (omega (arith, known .0)) in
+          absurd (omega (arith, known .1 (D .k) u, D .covers (D .k) (omega arith) p, invariant .kept .memory .item (D .k) .birth p, not-born (D .k)
+              p))
+      same (Split.more u) (Split.less v) =
+          let p : 0 < s .memory .item (object-at o (effects run) .items) .valid = D .have (object-at o (effects run) .items) v in
+          absurd (omega (arith, known .2 (object-at o (effects run) .items) (omega arith) (there _ p (split _ (s .memory .items))),
+            D .noted (object-at o (effects run) .items) v, invariant .kept .memory .item (object-at o (effects run) .items) .birth p))
       same (Split.more u) (Split.more v) = omega arith
-      young : (y : ℕ) → y < R .k → _≡_ {A = ℕ} (cond (ltb (s .memory .item y .effect-at 0) o) 1 0) 1
-      young y u = yes (ltb (s .memory .item y .effect-at 0) o)
-          (lt-ltb (s .memory .item y .effect-at 0) o (omega (arith, R .noted y u, invariant .kept .memory .item y .birth (R .have y u))))
-        where
-          yes : (b : Bool) → T b → _≡_ {A = ℕ} (cond b 1 0) 1
-          yes true t = refl
-          yes false t = absurd t
-      old : (y : ℕ) → R .k ≤ y → y < s .memory .items → _≡_ {A = ℕ} (cond (ltb (s .memory .item y .effect-at 0) o) 1 0) 0
-      old y u v =
-          by-lt (λ (n : ℕ). n ≡ 0) (s .memory .item y .effect-at 0) o
-            (λ p. absurd (omega (arith, R .covers y u (invariant .kept .memory .registered y v), invariant .kept .memory .item y .birth
-                (invariant .kept .memory .registered y v)))) (λ p. refl)
-      later : (y : ℕ) → R .k ≤ y → y < s .memory .items → s .memory .camera .left-at h < s .memory .item y .effect-at 0
-      later y u v = omega (arith, R .when, R .covers y u (invariant .kept .memory .registered y v), invariant .kept .memory .item y .birth
-          (invariant .kept .memory .registered y v))
-      shares : sum-to share (s .memory .items) ≡ total-at (effects run) q (s .memory .camera .left-at h)
-      shares = unfold share in
-          (sym (E .memory .births
-          (λ t i v z. cond (leb t (s .memory .camera .left-at h) && eqb (value-at (effects run) i (s .memory .camera .left-at h)) q) z 0)))
 
 module _ (s : Catalogue) (invariant : Invariant s) where
   -- what is known of a finished total
@@ -162,35 +178,39 @@ module _ (s : Catalogue) (invariant : Invariant s) where
           (τ, subst (λ (x : ℕ). TotalRead (s .memory) q h o (s .fate o .lines) τ x) (sym (O .is)) R, omega arith)
 
 -- every finished total of every run of the machine
-pub exact-totals : (limits : Limits) (cs : List Call) (o q h : ℕ) → ledger (machine-notes limits cs) .fate o .operation ≡ total q h →
-    ledger (machine-notes limits cs) .fate o .done ≡ true → ExactTotal (machine-notes limits cs) o q h
-exact-totals limits cs o q h w d =
-    exact-total (after-calls limits cs) (run-right limits cs) (machine-notes limits cs) (effected limits cs) q h (x .1 .gone) (agrees limits cs) o
-        (x .0) _ _ there refl (x .2) (x .1)
+pub exact-totals : (limits : Limits) (cs : List Call) (o q h x : ℕ) → ledger (machine-notes limits cs) .fate o .operation ≡ total q h →
+    ledger (machine-notes limits cs) .fate o .ending ≡ Notes.answers x → ExactTotal (machine-notes limits cs) (effects (machine-notes limits cs)) o q
+        h x
+exact-totals limits cs o q h x w e =
+    subst (λ (x : ℕ). ExactTotal (machine-notes limits cs) (effects (machine-notes limits cs)) o q h x) (is-answer (agrees limits cs .fate o) x e)
+      (exact-total (after-calls limits cs) (run-right limits cs) (machine-notes limits cs) (effected limits cs) q h (y .1 .gone) (agrees limits cs) o
+        (y .0) _ _ there asks done (y .1))
   where
+    done : after-calls limits cs .fate o .done ≡ true
+    done = agrees limits cs .fate o .answered x e
+    asks : after-calls limits cs .fate o .operation ≡ total q h
+    asks = sym (agrees limits cs .fate o .operation) ∙ w
     there : TotalEnd (after-calls limits cs .memory) (machine-notes limits cs) h o (suc (after-calls limits cs .fate o .ended-at))
         (after-calls limits cs .fate o .lines)
     there =
         subst (λ (op : Operation). EndTotal (after-calls limits cs .memory) (machine-notes limits cs) o (suc (after-calls limits cs .fate o .ended-at))
-            (after-calls limits cs .fate o .lines) op)
-          (sym (ap (λ (f : Fate). f .operation) (agrees limits cs .fate o)) ∙ w)
-              (total-run limits cs .ends o (sym (ap (λ (f : Fate). f .done) (agrees limits cs .fate o)) ∙ d))
-    x : (τ : ℕ) × TotalRead (after-calls limits cs .memory) q h o (after-calls limits cs .fate o .lines) τ (after-calls limits cs .fate o .answer)
+            (after-calls limits cs .fate o .lines) op) asks (total-run limits cs .ends o done)
+    y : (τ : ℕ) × TotalRead (after-calls limits cs .memory) q h o (after-calls limits cs .fate o .lines) τ (after-calls limits cs .fate o .answer)
         × (τ ≡ after-calls limits cs .fate o .ended-at)
-    x = finished-total (after-calls limits cs) (run-right limits cs) o q h (sym (ap (λ (f : Fate). f .operation) (agrees limits cs .fate o)) ∙ w)
-        (sym (ap (λ (f : Fate). f .done) (agrees limits cs .fate o)) ∙ d)
+    y = finished-total (after-calls limits cs) (run-right limits cs) o q h asks done
 
 -- never more than 5,121 steps
-pub total-most : (limits : Limits) → limits .items ≤ 256 → limits .nodes ≤ 4096 → (cs : List Call) (o q h : ℕ) →
-    ledger (machine-notes limits cs) .fate o .operation ≡ total q h → ledger (machine-notes limits cs) .fate o .done ≡ true →
+pub total-most : (limits : Limits) → limits .items ≤ 256 → limits .nodes ≤ 4096 → (cs : List Call) (o q h x : ℕ) →
+    ledger (machine-notes limits cs) .fate o .operation ≡ total q h → ledger (machine-notes limits cs) .fate o .ending ≡ Notes.answers x →
   length (ledger (machine-notes limits cs) .fate o .lines) ≤ 5121
-total-most limits a b cs o q h w d =
-    subst (λ (f : Fate). length (f .lines) ≤ 5121) (sym (agrees limits cs .fate o))
+total-most limits a b cs o q h x w e =
+    subst (λ (l : List ℕ). length l ≤ 5121) (sym (agrees limits cs .fate o .done done .1))
       (total-bound (after-calls limits cs) (run-right limits cs) (tally limits cs)
           (subst (λ (y : Limits). y .items ≤ 256) (sym (limits-kept limits cs)) a)
-          (subst (λ (y : Limits). y .nodes ≤ 4096) (sym (limits-kept limits cs)) b) q h o (x .0) _ _ (x .1))
+          (subst (λ (y : Limits). y .nodes ≤ 4096) (sym (limits-kept limits cs)) b) q h o (y .0) _ _ (y .1))
   where
-    x : (τ : ℕ) × TotalRead (after-calls limits cs .memory) q h o (after-calls limits cs .fate o .lines) τ (after-calls limits cs .fate o .answer)
+    done : after-calls limits cs .fate o .done ≡ true
+    done = agrees limits cs .fate o .answered x e
+    y : (τ : ℕ) × TotalRead (after-calls limits cs .memory) q h o (after-calls limits cs .fate o .lines) τ (after-calls limits cs .fate o .answer)
         × (τ ≡ after-calls limits cs .fate o .ended-at)
-    x = finished-total (after-calls limits cs) (run-right limits cs) o q h (sym (ap (λ (f : Fate). f .operation) (agrees limits cs .fate o)) ∙ w)
-        (sym (ap (λ (f : Fate). f .done) (agrees limits cs .fate o)) ∙ d)
+    y = finished-total (after-calls limits cs) (run-right limits cs) o q h (sym (agrees limits cs .fate o .operation) ∙ w) done

@@ -1,14 +1,13 @@
 -- Three runs with their one order written out: in none of them is it the order of the answers.
 use mathlib.Core.Path.{_≡_, refl, _∙_}
-use mathlib.Core.Bool.{true}
 use mathlib.Core.List.{List, [], _∷_, _++_}
 use Prim.Native.Nat.{ℕ}
 use lib.ListN.{replicate}
 use Rattle.definitions.specs.Calls.{Call}
 use Rattle.history.specs.Tools.{put}
-use Rattle.history.specs.Definition1.{v-cas, read-snapshot}
-use Rattle.history.specs.Ledger.{ledger, entered, step-entered}
-use Rattle.history.specs.Effects.{birth, change, snapshot, last-step, last-published, deed-effect, note-effect, insert, insert-all, effects}
+use Rattle.history.specs.Definition1.{v-cas, read-snapshot, apply, total-to, total-of}
+use Rattle.history.specs.Notes.{Ending, ledger, entered, birth, change, snapshot, object-at, changes-between}
+use Rattle.history.specs.Effects.{insert, last-published, effects}
 use Rattle.history.specs.Machine.{Limits, first-free, node-to-take, used-next, all-but-first, one-taken, one-returned, after, total-at, line,
     memory-after, place-after, ended, turned-away, affect, settle, tick, stepped, stepping, first-phase, begun, starting, registered, registering,
     move, call, reply, fresh, after-calls}
@@ -48,24 +47,35 @@ unfolding helped order-to slot-onto first-free node-to-take used-next all-but-fi
     after-calls put
 helped-order = notes-order-is sizes (made helped []) ∙ refl
 
-helped-effects : effects (machine-notes sizes (made helped [])) ≡ record { time = 13; what = snapshot 0 } ∷ record { time = 10;
-    what = change 0 2 6 } ∷ record { time = 0; what = birth 0 1 100 } ∷ []
-unfolding helped effects insert-all insert note-effect deed-effect last-step last-published machine-notes machine-note first-free node-to-take
+helped-effects : effects (machine-notes sizes (made helped [])) ≡ snapshot 13 0 ∷ change 10 0 2 6 ∷ birth 0 0 1 100 ∷ []
+unfolding helped effects insert ledger entered last-published machine-notes machine-note first-free node-to-take
     used-next all-but-first one-taken one-returned after total-at line memory-after place-after ended turned-away affect settle tick stepped stepping
     first-phase begun starting registered registering move call reply fresh after-calls put
 helped-effects = refl
 
+-- Definition 1's object at the snapshot, call 13, and just before the change, call 9; one change after call 9 was published before call 7.
+helped-object : (object-at 13 (effects (machine-notes sizes (made helped []))) .value 0 ≡ 2)
+  × (object-at 9 (effects (machine-notes sizes (made helped []))) .value 0 ≡ 1)
+  × (total-of 2 (object-at 13 (effects (machine-notes sizes (made helped [])))) ≡ 100)
+  × (changes-between 0 9 7 (effects (machine-notes sizes (made helped []))) ≡ 1)
+unfolding helped object-at changes-between apply total-to effects insert ledger entered last-published machine-notes machine-note first-free
+    node-to-take used-next all-but-first one-taken one-returned after total-at line memory-after place-after ended turned-away affect settle tick
+    stepped stepping first-phase begun starting registered registering move call reply fresh after-calls put
+helped-object = (refl, refl, refl, refl)
+
 -- What the readSnapshot (16) and the vCAS (1) came to: 2 in 3 steps, and 1 in 7, the last of all.
 helped-read : ledger (machine-notes sizes (made helped [])) .fate 16
-  ≡ record { operation = read-snapshot 0 0; worker = 2; done = true; answer = 2; ended-at = 19; lines = 34 ∷ 20 ∷ 32 ∷ []; refusal = 0 }
-unfolding helped ledger entered step-entered machine-notes machine-note first-free node-to-take used-next all-but-first one-taken one-returned after total-at line memory-after
+  ≡ record { operation = read-snapshot 0 0; worker = 2; lines = 34 ∷ 20 ∷ 32 ∷ []; ending = Ending.answers 2; at = 19 }
+unfolding helped ledger entered machine-notes machine-note first-free node-to-take used-next all-but-first one-taken one-returned after total-at line
+    memory-after
     place-after ended turned-away affect settle tick stepped stepping first-phase begun starting registered registering move call reply fresh
     after-calls put
 helped-read = refl
 
 helped-change : ledger (machine-notes sizes (made helped [])) .fate 1
-  ≡ record { operation = v-cas 0 1 2; worker = 0; done = true; answer = 1; ended-at = 21; lines = 48 ∷ 20 ∷ 46 ∷ 45 ∷ 43 ∷ 20 ∷ 41 ∷ []; refusal = 0 }
-unfolding helped ledger entered step-entered machine-notes machine-note first-free node-to-take used-next all-but-first one-taken one-returned after total-at line memory-after
+  ≡ record { operation = v-cas 0 1 2; worker = 0; lines = 48 ∷ 20 ∷ 46 ∷ 45 ∷ 43 ∷ 20 ∷ 41 ∷ []; ending = Ending.answers 1; at = 21 }
+unfolding helped ledger entered machine-notes machine-note first-free node-to-take used-next all-but-first one-taken one-returned after total-at line
+    memory-after
     place-after ended turned-away affect settle tick stepped stepping first-phase begun starting registered registering move call reply fresh
     after-calls put
 helped-change = refl
@@ -81,9 +91,8 @@ unfolding lost order-to slot-onto first-free node-to-take used-next all-but-firs
     ended turned-away affect settle tick stepped stepping first-phase begun starting registered registering move call reply fresh after-calls put
 lost-order = notes-order-is sizes (made lost []) ∙ refl
 
-lost-effects : effects (machine-notes sizes (made lost [])) ≡ record { time = 23; what = change 0 0 21 } ∷ record { time = 13;
-    what = change 0 2 11 } ∷ record { time = 0; what = birth 0 1 100 } ∷ []
-unfolding lost effects insert-all insert note-effect deed-effect last-step last-published machine-notes machine-note first-free node-to-take used-next
+lost-effects : effects (machine-notes sizes (made lost [])) ≡ change 23 0 0 21 ∷ change 13 0 2 11 ∷ birth 0 0 1 100 ∷ []
+unfolding lost effects insert ledger entered last-published machine-notes machine-note first-free node-to-take used-next
     all-but-first one-taken one-returned after total-at line memory-after place-after ended turned-away affect settle tick stepped stepping
     first-phase begun starting registered registering move call reply fresh after-calls put
 lost-effects = refl

@@ -5,7 +5,7 @@ use mathlib.Core.Bool.{Bool, cond}
 use mathlib.Core.List.{List, [], _∷_, _++_}
 use Prim.Native.Nat.{ℕ, suc, _+_, _≤_, _<_}
 use lib.Dec.{eqb}
-pub use Rattle.history.specs.Ledger.{helped, read-lines}
+pub use Rattle.history.specs.Statements.{helped, read-lines}
 use Rattle.history.specs.Machine.{Item, Camera, Memory}
 
 -- ---- facts

@@ -2,17 +2,16 @@
 use mathlib.Core.Path.{_≡_, refl, ap, ap₂, sym, _∙_, subst}
 use mathlib.Core.Logic.{_≢_, _⊎_, inl, inr}
 use mathlib.Core.Bool.{Bool, true, false}
-use mathlib.Core.List.{List, [], _∷_}
+use mathlib.Core.List.{List, [], _∷_, _++_}
 use Prim.Native.Nat.{ℕ, zero, suc, _+_, _*_, _≤_, _<_}
 use native.Mathlib.Omega.{arith}
 use lib.ListN.{length, getD}
 use Rattle.history.specs.Tools.{Split, split, Same, eq, ne, same?}
-use Rattle.history.specs.Definition1.{Operation, register, v-read, v-cas, take-snapshot, read-snapshot, total}
-use Rattle.history.specs.Notes.{Deed, Note}
+use Rattle.history.specs.Definition1.{Follows, Operation, register, v-read, v-cas, take-snapshot, read-snapshot, total}
+use Rattle.history.specs.Notes.{Deed, Note, ledger}
 use Rattle.history.specs.Notes as Notes
-use Rattle.history.specs.Ledger.{ledger}
 use Rattle.history.specs.NoteParts.{deed-item, note-tag, note-worker, note-line, note-deed}
-use Rattle.history.specs.Statements.{Noted, Executed, LostTo, In, first, later, Falling, Behind, RightAfter, Immediately}
+use Rattle.history.specs.Statements.{Executed, LostTo, In, Falling, Immediately}
 use Rattle.history.specs.Machine.{Item, Place, unplaced, awaits, changes, observes, Catalogue}
 use Rattle.history.specs.RightAnswers.{RightAnswer, TotalRead, AtLastStep}
 use Rattle.history.specs.Places.{ChangeRight, ObserverRight, PlaceRight, Invariant}
@@ -26,7 +25,8 @@ use Rattle.history.specs.Instants.{stamped-first, lost-to}
 
 -- ---- at one time there is one note
 
-pub noted-one : (x y : Note) (past past' run : List Note) → Noted x past run → Noted y past' run → length past ≡ length past' → (x ≡ y) × (past ≡ past')
+pub noted-one : (x y : Note) (past past' run : List Note) → Follows x past run → Follows y past' run → length past ≡ length past' → (x ≡ y) ×
+    (past ≡ past')
 noted-one x y past past' [] a b e = absurd a
 noted-one x y past past' (z ∷ l) (inl (p, q)) (inl (p', q')) e = (p ∙ sym p', q ∙ sym q')
 noted-one x y past past' (z ∷ l) (inl (p, q)) (inr b) e = absurd (omega (arith, ap length q, noted-past y past' l b))
@@ -212,32 +212,49 @@ module _ (s : Catalogue) (invariant : Invariant s) (run : List Note) (T : Traced
 
 -- ---- in the order
 
-nowhere : {c : ℕ} {l : List ℕ} → In c l → length l ≡ 0 → ⊥
-nowhere (first {q} {l} e) z = omega arith
-nowhere (later {q} {l} x) z = omega arith
-
 module _ (key : ℕ → ℕ) (run : List Note) (c i p o : ℕ) (h : (q : ℕ) → key c ≤ key q → key q ≤ key o → (q ≡ c) ⊎ LostTo run q i p) where
-  behind : (l : List ℕ) → Falling key l → In c l → ((q : ℕ) → In q l → key q ≤ key o) → Behind run c i p l
-  behind [] f m b = absurd (nowhere m refl)
-  behind (q ∷ l) f m b = by (λ n. behind l (f .1) n (λ q' n. b q' (later n))) m
+  -- the list up to c: only operations that lost
+  abbrev Behind : List ℕ → Type 0
+  Behind l = (between : List ℕ) × (older : List ℕ) × (l ≡ between ++ (c ∷ older)) × ((q : ℕ) → In q between → LostTo run q i p)
+
+  one-behind : (q : ℕ) (l : List ℕ) → LostTo run q i p → Behind l → Behind (q ∷ l)
+  one-behind q l x y = (q ∷ y .0, y .1, ap (λ (l : List ℕ). q ∷ l) (y .2), lost)
     where
-      step : (In c l → Behind run c i p l) → In c l → (q ≡ c) ⊎ LostTo run q i p → (q ≡ c) ⊎ (LostTo run q i p × Behind run c i p l)
-      step g m (inl e) = inl e
-      step g m (inr x) = inr (x, g m)
-      by : (In c l → Behind run c i p l) → In c (q ∷ l) → (q ≡ c) ⊎ (LostTo run q i p × Behind run c i p l)
-      by g (first e) = inl (sym e)
-      by g (later m) = step g m (h q (f .0 c m) (b q (first refl)))
+      lost : (q' : ℕ) → In q' (q ∷ y .0) → LostTo run q' i p
+      lost q' (inl e) = subst (λ (q : ℕ). LostTo run q i p) (sym e) x
+      lost q' (inr n) = y .3 q' n
+
+  behind : (l : List ℕ) → Falling key l → In c l → ((q : ℕ) → In q l → key q ≤ key o) → Behind l
+  behind [] f m b = absurd m
+  behind (q ∷ l) f m b = by (λ n. behind l (f .1) n (λ q' n. b q' (inr n))) m
+    where
+      found : q ≡ c → Behind (q ∷ l)
+      found e = ([], l, ap (λ (q : ℕ). q ∷ l) e, λ q n. absurd n)
+      step : (In c l → Behind l) → In c l → (q ≡ c) ⊎ LostTo run q i p → Behind (q ∷ l)
+      step g m (inl e) = found e
+      step g m (inr x) = one-behind q l x (g m)
+      by : (In c l → Behind l) → In c (q ∷ l) → Behind (q ∷ l)
+      by g (inl e) = found (sym e)
+      by g (inr m) = step g m (h q (f .0 c m) (b q (inl refl)))
+
+  abbrev RightAfter : List ℕ → Type 0
+  RightAfter l = (newer : List ℕ) × (between : List ℕ) × (older : List ℕ) × (l ≡ newer ++ (o ∷ (between ++ (c ∷ older)))) ×
+      ((q : ℕ) → In q between → LostTo run q i p)
 
   -- c is older than o
-  older : (l : List ℕ) → Falling key l → key c < key o → In o l → In c l → RightAfter run c i p o l
-  older [] f d n m = absurd (nowhere m refl)
+  older : (l : List ℕ) → Falling key l → key c < key o → In o l → In c l → RightAfter l
+  older [] f d n m = absurd m
   older (q ∷ l) f d n m = by (λ n m. older l (f .1) d n m) n m
     where
-      by : (In o l → In c l → RightAfter run c i p o l) → In o (q ∷ l) → In c (q ∷ l) → ((q ≡ o) × Behind run c i p l) ⊎ RightAfter run c i p o l
-      by g (first e) (first z) = absurd (omega (arith, ap key (e ∙ sym z)))
-      by g (first e) (later m) = inl (sym e, behind l (f .1) m (λ q' n. omega (arith, f .0 q' n, ap key e)))
-      by g (later n) (first z) = absurd (omega (arith, f .0 o n, ap key z))
-      by g (later n) (later m) = inr (g n m)
+      here : o ≡ q → Behind l → RightAfter (q ∷ l)
+      here e y = ([], y .0, y .1, ap₂ (λ (q : ℕ) (l : List ℕ). q ∷ l) (sym e) (y .2), y .3)
+      there : RightAfter l → RightAfter (q ∷ l)
+      there y = (q ∷ y .0, y .1, y .2, ap (λ (l : List ℕ). q ∷ l) (y .3), y .4)
+      by : (In o l → In c l → RightAfter l) → In o (q ∷ l) → In c (q ∷ l) → RightAfter (q ∷ l)
+      by g (inl e) (inl z) = absurd (omega (arith, ap key (e ∙ sym z)))
+      by g (inl e) (inr m) = here e (behind l (f .1) m (λ q' n. omega (arith, f .0 q' n, ap key e)))
+      by g (inr n) (inl z) = absurd (omega (arith, f .0 o n, ap key z))
+      by g (inr n) (inr m) = there (g n m)
 
 module _ (s : Catalogue) (invariant : Invariant s) (run : List Note) (T : Traced s run) (M : Moments s run) where
   pub right-after : (o i old new : ℕ) → s .fate o .operation ≡ v-cas i old new → s .fate o .done ≡ true → getD (s .fate o .lines) 0 0 ≡ 52 →
@@ -248,17 +265,23 @@ module _ (s : Catalogue) (invariant : Invariant s) (run : List Note) (T : Traced
       by (ends-43 z H) = absurd (omega (arith, l, z))
       by (ends-48 z k p m) = absurd (omega (arith, l, z))
       by (ends-52 z H) =
-          record {
-            c = s .memory .item i .author (suc (H .g)); v = s .memory .item i .value (suc (H .g)); p = s .memory .item i .published-at (suc (H .g));
-            lost = lost-to s invariant run T o i (H .g) (H .lost); changed = T .memory .published i (H .g) (H .lost .soon);
-            after = older (λ q. key-of (s .memory) (s .place q)) run (s .memory .item i .author (suc (H .g))) i
-                (s .memory .item i .published-at (suc (H .g))) o
-              (λ q a b. at-instant s invariant run T M i (H .g) (H .good) q (omega (arith, change-key)) (omega (arith, loss-key)))
-              (has-one-order s invariant .order) (has-one-order s invariant .keys) (omega (arith, change-key, loss-key))
-              (has-one-order s invariant .all o (done-past s invariant o d) d) (has-one-order s invariant .changed i (suc (H .g)) (H .good)) }
+          (s .memory .item i .author (suc (H .g)), s .memory .item i .value (suc (H .g)), s .memory .item i .published-at (suc (H .g)),
+            lost-to s invariant run T o i (H .g) (H .lost), T .memory .published i (H .g) (H .lost .soon),
+            after .0, after .1, after .2, after .3, after .4)
         where
           loss-key : key-of (s .memory) (s .place o) ≡ 2 * s .memory .item i .effect-at (suc (H .g)) + 1
           loss-key = ap (key-of (s .memory)) (H .is) ∙ ap (λ (t : ℕ). 2 * t + 1) (H .at)
           change-key : key-of (s .memory) (s .place (s .memory .item i .author (suc (H .g)))) ≡ 2 * s .memory .item i .effect-at (suc (H .g))
           change-key = ap (key-of (s .memory))
               (invariant .kept .versions-right i (suc (H .g)) (omega (arith, H .good, invariant .kept .memory .item i .valid-published)) .valid (H .good))
+          near : (q : ℕ) → key-of (s .memory) (s .place (s .memory .item i .author (suc (H .g)))) ≤ key-of (s .memory) (s .place q) →
+              key-of (s .memory) (s .place q) ≤ key-of (s .memory) (s .place o) →
+              (q ≡ s .memory .item i .author (suc (H .g))) ⊎ LostTo run q i (s .memory .item i .published-at (suc (H .g)))
+          near q a b = at-instant s invariant run T M i (H .g) (H .good) q (omega (arith, change-key)) (omega (arith, loss-key))
+          after : RightAfter (λ q. key-of (s .memory) (s .place q)) run (s .memory .item i .author (suc (H .g))) i
+              (s .memory .item i .published-at (suc (H .g))) o near (has-one-order s invariant .order)
+          after =
+              older (λ q. key-of (s .memory) (s .place q)) run (s .memory .item i .author (suc (H .g))) i
+                  (s .memory .item i .published-at (suc (H .g))) o near
+              (has-one-order s invariant .order) (has-one-order s invariant .keys) (omega (arith, change-key, loss-key))
+              (has-one-order s invariant .all o (done-past s invariant o d) d) (has-one-order s invariant .changed i (suc (H .g)) (H .good))

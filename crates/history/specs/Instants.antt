@@ -1,5 +1,6 @@
 -- The instants of document 01, told from the notes, are the times that the machine keeps.
 use mathlib.Core.Path.{_≡_, refl, ap, sym, _∙_, subst}
+use mathlib.Core.Logic.{inl, inr}
 use mathlib.Core.Bool.{Bool, true, false}
 use mathlib.Core.List.{List}
 use Prim.Native.Nat.{ℕ, zero, suc, _≤_, _<_, max}
@@ -7,7 +8,7 @@ use native.Mathlib.Omega.{arith}
 use Rattle.history.specs.Tools.{Split, split, Same, eq, ne, same?}
 use Rattle.history.specs.Notes.{Note}
 use Rattle.history.specs.Notes as Notes
-use Rattle.history.specs.Statements.{Executed, FirstStamp, HeadInstant, at-fetch, at-stamp, ChangeInstant, LostTo, LossInstant}
+use Rattle.history.specs.Statements.{Executed, FirstStamp, HeadInstant, ChangeInstant, LostTo, LossInstant}
 use Rattle.history.specs.Machine.{Memory, Catalogue}
 use Rattle.history.specs.Facts.{MemoryFacts}
 use Rattle.history.specs.Places.{Invariant}
@@ -51,9 +52,8 @@ module _ (s : Catalogue) (invariant : Invariant s) (run : List Note) (T : Traced
   first-stamp : (i p j : ℕ) → suc j < s .memory .item i .valid → s .memory .item i .published-at (suc j) ≤ p → p < s .memory .item i .stamped-at (suc j) →
     FirstStamp run i p (s .memory .item i .effect-at (suc j)) (s .memory .item i .stamped-at (suc j))
   first-stamp i p j g a b =
-      record {
-        o = S .o; v = s .memory .item i .value (suc j); stored = S .stored; after = b; read = S .read; before = S .before; own-next = S .own-next;
-        first = λ o' v' s' e q. at s' q (T .memory .stamps-only o' i v' s' e) }
+      (S .o, s .memory .item i .value (suc j), S .stored, (b, λ s' e q. at s' q (T .memory .stamps-only (e .0) i (e .1) s' (e .2))), S .read,
+        (S .before, λ t e q. S .own-next (e .0) (e .1) t (e .2) q))
     where
       S : Stamping (s .memory .item i) run i (suc j)
       S = T .memory .stamped i j g
@@ -75,14 +75,14 @@ module _ (s : Catalogue) (invariant : Invariant s) (run : List Note) (T : Traced
       told : (b : Bool) → F .valid ≡ b → Executed run o line (Notes.fetches i b) f
       told b q = subst (λ (b : Bool). Executed run o line (Notes.fetches i b) f) q (F .executed)
       at : (b : Bool) → F .valid ≡ b → HeadInstant run o i line τ
-      at true q = at-fetch (subst (λ (t : ℕ). Executed run o line (Notes.fetches i true) t) (omega (arith, F .yes q .1)) (told true q))
+      at true q = inl (subst (λ (t : ℕ). Executed run o line (Notes.fetches i true) t) (omega (arith, F .yes q .1)) (told true q))
       at false q = later j refl
         where
           later : (j' : ℕ) → j ≡ j' → HeadInstant run o i line τ
           later zero z = absurd (omega (arith, F .no q .0))
           later (suc j') z =
-              at-stamp f (s .memory .item i .effect-at (suc j')) (told false q)
-                (subst (λ (t : ℕ). FirstStamp run i f (s .memory .item i .effect-at (suc j')) t) (ap (s .memory .item i .stamped-at) (sym z)
+              inr (f, s .memory .item i .effect-at (suc j'), told false q,
+                subst (λ (t : ℕ). FirstStamp run i f (s .memory .item i .effect-at (suc j')) t) (ap (s .memory .item i .stamped-at) (sym z)
                     ∙ omega (arith, F .no q .1 g))
                   (first-stamp i f j' (omega arith) (subst (λ (j : ℕ). s .memory .item i .published-at j ≤ f) z (omega (arith, F .got .before)))
                       (subst (λ (j : ℕ). f < s .memory .item i .stamped-at j) z (F .no q .1 g))))
@@ -97,19 +97,14 @@ module _ (s : Catalogue) (invariant : Invariant s) (run : List Note) (T : Traced
   pub change-instant : (i j : ℕ) → suc j < s .memory .item i .valid →
     ChangeInstant run (s .memory .item i .author (suc j)) i (s .memory .item i .effect-at (suc j))
   change-instant i j g =
-      record {
-        v = s .memory .item i .value (suc j); p = s .memory .item i .published-at (suc j); s = s .memory .item i .stamped-at (suc j);
-        published = T .memory .published i j (omega (arith, invariant .kept .memory .item i .valid-published));
-        stamped = change-stamped i j g }
+      (s .memory .item i .value (suc j), s .memory .item i .published-at (suc j), s .memory .item i .stamped-at (suc j),
+        T .memory .published i j (omega (arith, invariant .kept .memory .item i .valid-published)), change-stamped i j g)
 
   pub lost-to : (o i g : ℕ) → LostAt (s .memory .item i) run o i g → LostTo run o i (s .memory .item i .published-at (suc g))
   lost-to o i g x =
-      record {
-        valid = x .fetched .valid; f = x .f; fetched = x .fetched .executed;
-        published = record {
-          o = s .memory .item i .author (suc g); v = s .memory .item i .value (suc g); published = T .memory .published i g (x .soon);
-              after = x .fetched .got .next (x .soon);
-          first = λ o' v' p' e q. at p' q (T .memory .publishes-only o' i v' p' e) } }
+      (x .fetched .valid, x .f, x .fetched .executed,
+        (s .memory .item i .author (suc g), s .memory .item i .value (suc g), T .memory .published i g (x .soon)),
+        (x .fetched .got .next (x .soon), λ p' e q. at p' q (T .memory .publishes-only (e .0) i (e .1) p' (e .2))))
     where
       at : (p' : ℕ) → x .f < p' → (j' : ℕ) × (suc j' < s .memory .item i .versions) × (p' ≡ s .memory .item i .published-at (suc j')) →
           s .memory .item i .published-at (suc g) ≤ p'
@@ -125,7 +120,6 @@ module _ (s : Catalogue) (invariant : Invariant s) (run : List Note) (T : Traced
   pub loss-instant : (o i g : ℕ) → LostAt (s .memory .item i) run o i g → suc g < s .memory .item i .valid →
       LossInstant run o i (s .memory .item i .effect-at (suc g))
   loss-instant o i g x v =
-      record {
-        p = s .memory .item i .published-at (suc g); s = s .memory .item i .stamped-at (suc g); lost = lost-to o i g x;
-        stamped = first-stamp i (s .memory .item i .published-at (suc g)) g v (omega arith)
-            (omega (arith, invariant .kept .memory .item i .effect-after-46 (suc g) v, T .memory .stamped i g v .before)) }
+      (s .memory .item i .published-at (suc g), s .memory .item i .stamped-at (suc g), lost-to o i g x,
+        first-stamp i (s .memory .item i .published-at (suc g)) g v (omega arith)
+            (omega (arith, invariant .kept .memory .item i .effect-after-46 (suc g) v, T .memory .stamped i g v .before)))

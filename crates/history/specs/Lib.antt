@@ -2,11 +2,8 @@ pub mod Tools
 pub mod Definition1
 pub mod Notes
 pub mod NoteParts
-pub mod Ledger
-pub mod Effects
 pub mod Statements
-pub mod Counts
-pub mod Promises
+pub mod Effects
 pub mod Machine
 pub mod Runs
 pub mod Facts

@@ -11,10 +11,25 @@ use Rattle.definitions.specs.Answers.{Refusal, _⇒_, finished, running, accept
 use Rattle.definitions.specs.Calls.{Call}
 use Rattle.history.specs.Tools.{put}
 pub use Rattle.history.specs.Definition1.{Operation, register, v-read, v-cas, take-snapshot, read-snapshot, total}
-pub use Rattle.history.specs.Ledger.{Fate}
-unfoldable pub use Rattle.history.specs.Ledger.{ended, turned-away}
 
 -- ---- what is kept
+
+-- The machine's entry of an operation: whether it answered; its answer, when, and the lines it executed, the newest first; or its refusal, 11 or 12.
+pub record Entry : Type 0 where
+  pub operation : Operation
+  pub worker : ℕ
+  pub done : Bool
+  pub answer : ℕ
+  pub ended-at : ℕ
+  pub lines : List ℕ
+  pub refusal : ℕ
+
+unfoldable pub ended : Entry → (x t : ℕ) → List ℕ → Entry
+ended f x t l = record { operation = f .operation; worker = f .worker; done = true; answer = x; ended-at = t; lines = l; refusal = 0 }
+
+unfoldable pub turned-away : Entry → (number t : ℕ) → List ℕ → Entry
+turned-away f number t l = record { operation = f .operation; worker = f .worker; done = false; answer = 0; ended-at = t; lines = l; refusal = number
+    }
 
 -- An item. Every version but the newest has a valid stamp; the newest may still have TBD.
 pub record Item : Type 0 where
@@ -260,7 +275,7 @@ pub record Catalogue : Type 0 where
   pub now : ℕ
   pub memory : Memory
   pub worker : ℕ → Worker
-  pub fate : ℕ → Fate
+  pub fate : ℕ → Entry
   pub place : ℕ → Place
 
 abbrev pub with-item : Memory → ℕ → Item → Memory

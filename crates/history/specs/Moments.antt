@@ -1,6 +1,6 @@
 -- The step that ended an operation, and the call that registered an item, are in the notes at the time the machine keeps.
 use mathlib.Core.Path.{_≡_, refl, ap, ap₂, sym, _∙_, subst}
-use mathlib.Core.Logic.{_≢_, _⊎_, inl, inr}
+use mathlib.Core.Logic.{_⊎_, inl, inr}
 use mathlib.Core.Bool.{true, false, true≢false}
 use mathlib.Core.List.{List, [], _∷_}
 use Prim.Native.Nat.{ℕ, suc, _<_}
@@ -8,13 +8,13 @@ use native.Mathlib.Omega.{arith}
 use lib.ListN.{length, getD}
 use Rattle.definitions.specs.Calls.{Call}
 use Rattle.history.specs.Tools.{put, put-all, put-same, put-other, Same, eq, ne, same?}
-use Rattle.history.specs.Notes.{Deed, Note}
+use Rattle.history.specs.Definition1.{Follows}
+use Rattle.history.specs.Notes.{Deed, Note, ledger}
 use Rattle.history.specs.Notes as Notes
-use Rattle.history.specs.Ledger.{Fate, ended, turned-away, ledger}
-use Rattle.history.specs.Statements.{Noted, Executed}
-use Rattle.history.specs.Machine.{Item, Memory, Limits, found, node-to-take, Operation, take-snapshot, Phase, line-number, Comes, goes-on,
-    ends-with, answers-change, answers, line, memory-after, newborn, Worker, busy, Catalogue, settle, affect, tick, begun, registered, call, fresh,
-    after-calls}
+use Rattle.history.specs.Statements.{Executed}
+use Rattle.history.specs.Machine.{Entry, ended, turned-away, Item, Memory, Limits, found, node-to-take, Operation, take-snapshot, Phase,
+    line-number, Comes, goes-on, ends-with, answers-change, answers, line, memory-after, newborn, Worker, busy, Catalogue, settle, affect, tick,
+    begun, registered, call, fresh, after-calls}
 use Rattle.history.specs.Machine as Machine
 use Rattle.history.specs.Facts.{Later}
 use Rattle.history.specs.Changes.{effect-later}
@@ -29,20 +29,20 @@ use Rattle.history.specs.LedgerRight.{InLedger, Agrees, agrees}
 use Rattle.history.specs.Trace.{executed-more}
 
 -- a register ended in its own call; another operation with the step that executed its last line
-abbrev pub Ended : List Note → ℕ → Fate → Type 0
+abbrev pub Ended : List Note → ℕ → Entry → Type 0
 Ended run o f = (operation-tag (f .operation) ≡ 0) ⊎ ((d : Deed) × Executed run o (getD (f .lines) 0 0) d (f .ended-at))
 
 -- an item with the call that registered it
 pub record BornBy (it : Item) (run : List Note) (i : ℕ) : Type 0 where
   pub past : List Note
-  pub noted : Noted (Notes.registered i (it .value 0) (it .size)) past run
+  pub noted : Follows (Notes.registered i (it .value 0) (it .size)) past run
   pub at : length past ≡ it .effect-at 0
 
 pub record Moments (s : Catalogue) (run : List Note) : Type 0 where
   pub ends : (o : ℕ) → s .fate o .done ≡ true → Ended run o (s .fate o)
   pub births : (i : ℕ) → i < s .memory .items → BornBy (s .memory .item i) run i
 
-ended-more : (run : List Note) (x : Note) (o : ℕ) (f : Fate) → Ended run o f → Ended (x ∷ run) o f
+ended-more : (run : List Note) (x : Note) (o : ℕ) (f : Entry) → Ended run o f → Ended (x ∷ run) o f
 ended-more run x o f (inl e) = inl e
 ended-more run x o f (inr (d, e)) = inr (d, executed-more x e)
 
@@ -53,7 +53,7 @@ module _ (s : Catalogue) (invariant : Invariant s) (run : List Note) (A : Agrees
   born-more x m' L e i p =
       record {
         past = b .past; at = b .at ∙ sym (L .item i .effect-at 0 good);
-        noted = inr (subst (λ (y : Note). Noted y (b .past) run)
+        noted = inr (subst (λ (y : Note). Follows y (b .past) run)
           (ap₂ (λ (v z : ℕ). Notes.registered i v z) (sym (L .item i .value 0 there)) (sym (L .item i .size there))) (b .noted)) }
     where
       b : BornBy (s .memory .item i) run i
@@ -75,7 +75,7 @@ module _ (s : Catalogue) (invariant : Invariant s) (run : List Note) (A : Agrees
   unfolding tick begun
   after-start w op =
       record {
-        ends = λ q. put-all (λ (q : ℕ) (f : Fate). f .done ≡ true → Ended (Notes.started w op ∷ run) q f) (s .fate) (s .now) _ q
+        ends = λ q. put-all (λ (q : ℕ) (f : Entry). f .done ≡ true → Ended (Notes.started w op ∷ run) q f) (s .fate) (s .now) _ q
             (λ e d. absurd (true≢false (sym d))) (λ e d. ended-more run _ q (s .fate q) (M .ends q d));
         births = born-more (Notes.started w op) (s .memory) stay refl }
 
@@ -83,7 +83,7 @@ module _ (s : Catalogue) (invariant : Invariant s) (run : List Note) (A : Agrees
   unfolding tick registered
   after-register v z y =
       record {
-        ends = λ q. put-all (λ (q : ℕ) (f : Fate). f .done ≡ true → Ended (x ∷ run) q f) (s .fate) (s .now) _ q (λ e d. inl refl)
+        ends = λ q. put-all (λ (q : ℕ) (f : Entry). f .done ≡ true → Ended (x ∷ run) q f) (s .fate) (s .now) _ q (λ e d. inl refl)
             (λ e d. ended-more run x q (s .fate q) (M .ends q d));
         births = λ i p. at i p (same? i (s .memory .items)) }
     where
@@ -116,7 +116,7 @@ module _ (s : Catalogue) (invariant : Invariant s) (run : List Note) (A : Agrees
         Ended (Notes.stepped w (line-number ph) d e ∷ run) q (put (s .fate) o (ended (s .fate o) x (s .now) (line-number ph ∷ l)) q)
     unfolding ended
     new-ends x d e q =
-        put-all (λ (q : ℕ) (f : Fate). f .done ≡ true → Ended (Notes.stepped w (line-number ph) d e ∷ run) q f) (s .fate) o
+        put-all (λ (q : ℕ) (f : Entry). f .done ≡ true → Ended (Notes.stepped w (line-number ph) d e ∷ run) q f) (s .fate) o
             (ended (s .fate o) x (s .now) (line-number ph ∷ l)) q
           (λ z t. inr (d, subst (λ (q : ℕ). Executed (Notes.stepped w (line-number ph) d e ∷ run) q (line-number ph) d (s .now)) (sym z) (here d e)))
               (λ z t. old-ends _ q t)
@@ -128,7 +128,7 @@ module _ (s : Catalogue) (invariant : Invariant s) (run : List Note) (A : Agrees
     step-ends m d (answers-change x) q t = new-ends x d (Notes.answers x) q t
     step-ends m d (answers x τ j) q t = new-ends x d (Notes.answers x) q t
     step-ends m d (ends-with n) q t =
-        put-all (λ (q : ℕ) (f : Fate). f .done ≡ true → Ended (Notes.stepped w (line-number ph) d (Notes.ends-with n) ∷ run) q f) (s .fate) o _ q
+        put-all (λ (q : ℕ) (f : Entry). f .done ≡ true → Ended (Notes.stepped w (line-number ph) d (Notes.ends-with n) ∷ run) q f) (s .fate) o _ q
             (λ z t. absurd (true≢false (sym t))) (λ z t. old-ends _ q t) t
 
     after-line : Moments (tick (after-step s w o l ph))

@@ -17,10 +17,23 @@ deed-item (Notes.stamps i v) = i
 deed-item (Notes.moves h) = h
 deed-item Notes.nothing = 0
 
+abbrev pub deed-value : Deed → ℕ
+deed-value (Notes.fetches i b) = 0
+deed-value (Notes.publishes i v) = v
+deed-value (Notes.stamps i v) = v
+deed-value (Notes.moves h) = 0
+deed-value Notes.nothing = 0
+
 abbrev pub ending-tag : Ending → ℕ
 ending-tag Notes.goes-on = 0
 ending-tag (Notes.answers x) = 1
 ending-tag (Notes.ends-with n) = 2
+
+-- the answer, or the number of refusal
+abbrev pub ending-number : Ending → ℕ
+ending-number Notes.goes-on = 0
+ending-number (Notes.answers x) = x
+ending-number (Notes.ends-with n) = n
 
 abbrev pub note-tag : Note → ℕ
 note-tag Notes.refused = 0

@@ -1,15 +1,18 @@
--- What a call did, noted by one who sees the words before it, the call and its answer. A run is told by its notes.
-use Prim.Native.Nat.{ℕ}
+-- What a call did, noted by one who sees the words before it, the call and its answer. A run is told by its notes, and so is
+-- what each operation came to, and what took effect when.
+use Prim.Native.Nat.{ℕ, _+_}
 use mathlib.Core.Bool.{Bool, cond, not, _&&_}
 use mathlib.Core.List.{List, [], _∷_}
-use lib.Dec.{eqb}
+use lib.Dec.{ltb, leb, eqb}
+use lib.ListN.{length}
 use Rattle.definitions.specs.declared.Answer.{Answer}
 use Rattle.definitions.specs.declared.PhaseRow.{PhaseRow}
 use Rattle.definitions.specs.Cells.{Cells, cells-of, counter, phase, item, node, new-node, seen, head, value, stamp}
 use Rattle.definitions.specs.Phases.{row-of, total-operation}
 use Rattle.definitions.specs.Damage.{TBD, any-of}
 use Rattle.definitions.specs.Calls.{Call, outcome}
-use Rattle.history.specs.Definition1.{Operation, register, v-read, v-cas, take-snapshot, read-snapshot, total}
+use Rattle.history.specs.Tools.{put}
+use Rattle.history.specs.Definition1.{Operation, register, v-read, v-cas, take-snapshot, read-snapshot, total, Object, with-value, apply, empty}
 
 -- What a line did that others can see, or saw of others:
 pub data Deed : Type 0 where
@@ -19,11 +22,13 @@ pub data Deed : Type 0 where
   moves : (h : ℕ) → Deed                      -- line 6, where it succeeds: the counter leaves h
   nothing : Deed
 
+-- how a step left its operation: running, with an answer, or ended with number 11 or 12
 pub data Ending : Type 0 where
   goes-on : Ending
   answers : (x : ℕ) → Ending
   ends-with : (number : ℕ) → Ending
 
+-- what a call was
 pub data Note : Type 0 where
   refused : Note                                      -- the call was refused, and changed nothing
   registered : (i v s : ℕ) → Note
@@ -32,9 +37,11 @@ pub data Note : Type 0 where
 
 -- ---- reading the words
 
+-- lines 32, 37, 41 and 51, but not those of a total
 abbrev pub fetches-head : PhaseRow → Bool
 fetches-head r = any-of (eqb (r .line) 32 ∷ eqb (r .line) 37 ∷ eqb (r .line) 41 ∷ eqb (r .line) 51 ∷ []) && not (eqb (r .operation) total-operation)
 
+-- what worker w's line does, by its row of the table of phases and the words before it
 abbrev pub deed-at : PhaseRow → Cells → ℕ → Deed
 deed-at r m w =
     cond (fetches-head r) (fetches (m (item w)) (not (eqb (m (stamp (m (head (m (item w)))))) TBD)))
@@ -65,6 +72,7 @@ note-of (Call.read-snapshot w i h) a line deed = if-accepted a (started w (read-
 note-of (Call.total w q h) a line deed = if-accepted a (started w (total q h))
 note-of (Call.step w) a line deed = step-note w (line w) (deed w) a
 
+-- what a call on words is noted as
 unfoldable pub note : List ℕ → Call → Note
 note ws c =
     let m = cells-of ws in
@@ -79,3 +87,62 @@ words-after ws (c ∷ cs) = outcome (words-after ws cs) c .words
 unfoldable pub notes : List ℕ → List Call → List Note
 notes ws [] = []
 notes ws (c ∷ cs) = note (words-after ws cs) c ∷ notes ws cs
+
+-- ---- what each operation came to, written down from the notes; it is named by the time of its start, the index of that call
+
+pub record Fate : Type 0 where
+  pub operation : Operation
+  pub worker : ℕ
+  pub lines : List ℕ       -- the lines that it has executed, the newest first
+  pub ending : Ending      -- how its latest call left it
+  pub at : ℕ               -- and when that was
+
+pub record Ledger : Type 0 where
+  pub fate : ℕ → Fate      -- of each operation
+  pub current : ℕ → ℕ      -- the operation that each worker was started in last
+
+-- an operation begins at t, or executes a line at t
+abbrev pub begins : Operation → (w : ℕ) → Ending → (t : ℕ) → Fate
+begins op w e t = record { operation = op; worker = w; lines = []; ending = e; at = t }
+abbrev pub continues : Fate → (line : ℕ) → Ending → (t : ℕ) → Fate
+continues f line e t = record { operation = f .operation; worker = f .worker; lines = line ∷ f .lines; ending = e; at = t }
+
+-- the entry of a call at t
+unfoldable pub entered : ℕ → Note → Ledger → Ledger
+entered t refused l = l
+entered t (registered i v s) l = record { fate = put (l .fate) t (begins (register i v s) 0 (answers i) t); current = l .current }
+entered t (started w op) l = record { fate = put (l .fate) t (begins op w goes-on t); current = put (l .current) w t }
+entered t (stepped w line d e) l =
+    record { fate = put (l .fate) (l .current w) (continues (l .fate (l .current w)) line e t); current = l .current }
+
+-- where no operation was started, an ending stands that none has
+unfoldable pub ledger : List Note → Ledger
+ledger [] = record { fate = λ o. begins take-snapshot 0 (ends-with 0) 0; current = λ w. 0 }
+ledger (x ∷ past) = entered (length past) x (ledger past)
+
+-- ---- what took effect, and when: births, changes and snapshots, the newest first
+
+pub data Effect : Type 0 where
+  birth : (t i v s : ℕ) → Effect      -- at t item i is registered with value v and size s
+  change : (t i v p : ℕ) → Effect     -- at t item i has value v, by a node that line 46 published at p
+  snapshot : (t h : ℕ) → Effect       -- at t the counter leaves h
+
+-- when it took effect
+abbrev pub time : Effect → ℕ
+time (birth t i v s) = t
+time (change t i v p) = t
+time (snapshot t h) = t
+
+-- Definition 1's object at time τ, as the effects up to then made it
+unfoldable pub object-at : ℕ → List Effect → Object
+object-at τ [] = empty
+object-at τ (birth t i v s ∷ l) = let x = object-at τ l in cond (leb t τ) (apply (register i v s) x) x
+object-at τ (change t i v p ∷ l) = let x = object-at τ l in cond (leb t τ) (with-value x i v) x
+object-at τ (snapshot t h ∷ l) = object-at τ l
+
+-- how many changes of item i take effect after τ, by nodes that were published before f
+unfoldable pub changes-between : (i τ f : ℕ) → List Effect → ℕ
+changes-between i τ f [] = 0
+changes-between i τ f (birth t k v s ∷ l) = changes-between i τ f l
+changes-between i τ f (change t k v p ∷ l) = cond (eqb i k && (ltb τ t && ltb p f)) 1 0 + changes-between i τ f l
+changes-between i τ f (snapshot t h ∷ l) = changes-between i τ f l

@@ -3,10 +3,10 @@
 use mathlib.Core.Path.{_≡_}
 use mathlib.Core.Logic.{_⊎_}
 use mathlib.Core.Bool.{true, false}
-use mathlib.Core.List.{List}
+use mathlib.Core.List.{List, map}
 use Prim.Native.Nat.{ℕ, _+_, _*_, _≤_, _<_}
 use Rattle.history.specs.Definition1.{Legal}
-pub use Rattle.history.specs.Statements.{In, first, later, Once, Falling, acts}
+pub use Rattle.history.specs.Statements.{In, Once, Falling}
 use Rattle.history.specs.RightAnswers.{AtHead, AtLoss}
 use Rattle.history.specs.Machine.{register, v-read, v-cas, take-snapshot, read-snapshot, total, Memory, Place, unplaced, awaits, changes,
     observes, Catalogue}
@@ -24,7 +24,7 @@ pub record Pending (s : Catalogue) (o : ℕ) : Type 0 where
 
 pub data Within (s : Catalogue) (o τ : ℕ) : Type 0 where
   inside : o < τ → (s .fate o .done ≡ true → τ ≤ s .fate o .ended-at) → Within s o τ
-  in-call : (i v z : ℕ) → s .fate o .operation ≡ register i v z → τ ≡ o → s .fate o .ended-at ≡ o → Within s o τ
+  in-call : (i v z : ℕ) → s .fate o .done ≡ true → s .fate o .operation ≡ register i v z → τ ≡ o → s .fate o .ended-at ≡ o → Within s o τ
 
 -- when a placed operation takes effect
 abbrev pub time-of : Memory → Place → ℕ
@@ -69,4 +69,4 @@ pub record OneOrder (s : Catalogue) : Type 0 where
   pub instants : Instants s time
   pub placed : (o : ℕ) → time o ≡ time-of (s .memory) (s .place o)
   pub answered : (o : ℕ) → In o order → s .fate o .done ≡ true → s .fate o .answer ≡ answer o
-  pub legal : Legal (acts (λ o. s .fate o .operation) answer order)
+  pub legal : Legal (map (λ o. record { operation = s .fate o .operation; answer = answer o }) order)

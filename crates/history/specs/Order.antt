@@ -1,38 +1,24 @@
 -- Every run of the machine of versions has the one order.
 use mathlib.Core.Path.{_≡_, refl, ap, sym, _∙_, subst}
-use mathlib.Core.Logic.{_≢_, _⊎_, inl, inr}
+use mathlib.Core.Logic.{_⊎_, inl, inr}
 use mathlib.Core.Bool.{Bool, true, false, cond, true≢false}
-use mathlib.Core.List.{List, [], _∷_}
+use mathlib.Core.List.{List, _∷_}
 use Prim.Native.Nat.{ℕ, zero, suc, _+_, _*_, _≤_, _<_}
 use native.Mathlib.Omega.{arith}
 use lib.Dec.{T, eqb, eqb→eq, eqb-refl}
 use Rattle.history.specs.Tools.{by-eq}
 use Rattle.history.specs.Machine.{Item, Operation, register, v-read, v-cas, take-snapshot, read-snapshot, total, Place, unplaced, awaits,
-    changes, observes, Catalogue}
+    changes, observes, Catalogue, Limits, after-calls}
 use Rattle.history.specs.Facts.{Sees}
 use Rattle.history.specs.RightAnswers.{RightAnswer, CasSees, AtHead, AtLoss, AtLastStep}
 use Rattle.history.specs.Places.{asked-for, ChangeRight, ObserverRight, PlaceRight, Invariant}
-use Rattle.history.specs.Definition1.{Act, changed, value-of, items-of, Took}
+use Rattle.history.specs.Definition1.{object}
 use Rattle.definitions.specs.Calls.{Call}
-use Rattle.history.specs.Machine.{Limits, after-calls}
 use Rattle.history.specs.Run.{run-right}
-use Rattle.history.specs.OneOrder.{In, first, later, time-of, Pending, Within, inside, in-call, CasInstant, by-change, at-43, at-52, Instants,
-    OneOrder}
+use Rattle.history.specs.OneOrder.{time-of, Pending, Within, inside, in-call, CasInstant, by-change, at-43, at-52, Instants, OneOrder}
 use Rattle.history.specs.OrderList.{keyed, answer-at, acts-of, slot-onto, order-to, Good, listed-skip, listed-take, listed-next, shown-skip,
     shown-next, change-key, author-past}
 use Rattle.history.specs.OrderShown.{operation-tag, asked-tag, change-operation, shown-observer, shown-change}
-
-abbrev NonNil {ℓ} : {A : Type ℓ} → List A → Type 0
-NonNil [] = ⊥
-NonNil (x ∷ l) = Unit {0}
-
-in-some : {o : ℕ} {l : List ℕ} → In o l → NonNil l
-in-some (first e) = tt
-in-some (later i) = tt
-
-took-some : {h : ℕ} {p l : List Act} → Took h p l → NonNil l
-took-some (Took.here a e f) = tt
-took-some (Took.earlier a t) = tt
 
 module _ (s : Catalogue) (invariant : Invariant s) where
   good-skip : {k n : ℕ} {l : List ℕ} → Good s invariant k n l → (T (keyed (s .memory) (s .place n) k) → ⊥) → Good s invariant k (suc n) l
@@ -67,15 +53,15 @@ module _ (s : Catalogue) (invariant : Invariant s) where
   good-slot (suc n) p G = good-step (good-slot n (omega arith) G) p
 
   good-order : (k : ℕ) → Good s invariant k 0 (order-to (s .memory) (s .place) (s .now) k)
-  unfolding order-to acts-of value-of items-of
+  unfolding order-to acts-of object
   good-order zero =
       record {
-        listed = record { once = tt; memory = λ o i. absurd (in-some i); below = λ o c u v w. absurd (omega arith); here = λ o u v. absurd (omega arith);
+        listed = record { once = tt; memory = λ o i. absurd i; below = λ o c u v w. absurd (omega arith); here = λ o u v. absurd (omega arith);
             falling = tt; keys = tt };
         shown = record { shown = λ i. 0; shown-valid = λ i. omega arith; before = λ i j p. absurd (omega arith);
             before-same = λ i j p e. absurd (omega arith); after = λ i j p q. omega arith; after-same = λ i j p q e. omega arith; value = λ i. refl;
             items = 0; items-is = refl; low = λ i p. absurd (omega arith); high = λ i p. refl; sizes = λ i p. absurd (omega arith);
-            snaps = λ h p t. absurd (took-some t); legal = tt } }
+            snaps = λ h p t. absurd t; legal = tt } }
   good-order (suc k) = next (good-slot (s .now) (omega arith) (good-order k))
     where
       next : {l : List ℕ} → Good s invariant k (s .now) l → Good s invariant (suc k) 0 l
@@ -106,7 +92,8 @@ module _ (s : Catalogue) (invariant : Invariant s) where
   timely o k x = at (s .place o) refl x
     where
       chgd : (i j : ℕ) → s .place o ≡ changes i j → ChangeRight (s .now) o i j (s .memory) (s .fate o) → Within s o (s .memory .item i .effect-at j)
-      chgd i zero e c = in-call i (s .memory .item i .value 0) (s .memory .item i .size) (change-operation s invariant o i zero e)
+      chgd i zero e c = in-call i (s .memory .item i .value 0) (s .memory .item i .size) (c .register-done refl)
+          (change-operation s invariant o i zero e)
           (invariant .kept .memory .item i .birth (c .good) ∙ c .mine) (c .register-ended refl)
       chgd i (suc j) e c =
           inside (omega

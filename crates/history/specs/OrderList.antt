@@ -1,19 +1,18 @@
 -- The list of the placed operations: by keys, twice the time, and one more for those that see and do not change.
-use mathlib.Core.Path.{_≡_, refl, ap, sym, _∙_, subst}
-use mathlib.Core.Logic.{_≢_}
+use mathlib.Core.Path.{_≡_, refl, ap, ap₂, sym, _∙_, subst}
+use mathlib.Core.Logic.{_≢_, inl, inr}
 use mathlib.Core.Bool.{Bool, false, cond}
-use mathlib.Core.List.{List, [], _∷_}
+use mathlib.Core.List.{List, [], _∷_, map}
 use Prim.Native.Nat.{ℕ, zero, suc, _+_, _*_, _≤_, _<_}
 use native.Mathlib.Omega.{arith}
 use lib.Dec.{T, eqb, eqb→eq, eqb-refl}
 use Rattle.history.specs.Tools.{put, Split, split, Same, eq, ne, same?}
-use Rattle.history.specs.Machine.{Item, Memory, Operation, take-snapshot, read-snapshot, total, Place, unplaced, awaits, changes, observes,
-    Catalogue}
+use Rattle.history.specs.Machine.{Item, Memory, Operation, take-snapshot, Place, unplaced, awaits, changes, observes, Catalogue}
 use Rattle.history.specs.Facts.{Sees}
 use Rattle.history.specs.RightAnswers.{change-answer}
 use Rattle.history.specs.Places.{Invariant}
-use Rattle.history.specs.Definition1.{Act, value-of, items-of, size-of, Took, ReadBack, TotalBack, Legal}
-use Rattle.history.specs.OneOrder.{In, first, later, Once, Falling, acts, time-of, key-of}
+use Rattle.history.specs.Definition1.{Act, Object, object, Answered, Legal}
+use Rattle.history.specs.OneOrder.{In, Once, Falling, time-of, key-of}
 
 -- ---- keys
 
@@ -64,7 +63,7 @@ shown-value it (suc j) = it .value j
 
 module _ (s : Catalogue) (invariant : Invariant s) where
   unfoldable pub acts-of : List ℕ → List Act
-  acts-of l = acts (λ o. s .fate o .operation) (λ o. answer-at (s .fate o .operation) (s .place o)) l
+  acts-of l = map (λ o. record { operation = s .fate o .operation; answer = answer-at (s .fate o .operation) (s .place o) }) l
 
   pub record Keyed (k n o : ℕ) : Type 0 where
     pub key : ℕ
@@ -82,13 +81,13 @@ module _ (s : Catalogue) (invariant : Invariant s) where
     pub falling : Falling (λ o. time-of (s .memory) (s .place o)) l
     pub keys : Falling (λ o. key-of (s .memory) (s .place o)) l
 
-  -- p is what came before the counter left h
-  pub record Shot (h : ℕ) (p : List Act) : Type 0 where
-    pub value : (i j : ℕ) → Sees (s .memory .item i) (s .memory .camera .left-at h) j → value-of i p ≡ s .memory .item i .value j
-    pub low : (i : ℕ) → i < items-of p → s .memory .item i .effect-at 0 ≤ s .memory .camera .left-at h
-    pub have : (i : ℕ) → i < items-of p → 0 < s .memory .item i .valid
-    pub high : (i : ℕ) → items-of p ≤ i → 0 < s .memory .item i .valid → s .memory .camera .left-at h < s .memory .item i .effect-at 0
-    pub sizes : (i : ℕ) → i < items-of p → size-of i p ≡ s .memory .item i .size
+  -- x is the object as it was when the counter left h
+  pub record Shot (h : ℕ) (x : Object) : Type 0 where
+    pub value : (i j : ℕ) → Sees (s .memory .item i) (s .memory .camera .left-at h) j → x .value i ≡ s .memory .item i .value j
+    pub low : (i : ℕ) → i < x .items → s .memory .item i .effect-at 0 ≤ s .memory .camera .left-at h
+    pub have : (i : ℕ) → i < x .items → 0 < s .memory .item i .valid
+    pub high : (i : ℕ) → x .items ≤ i → 0 < s .memory .item i .valid → s .memory .camera .left-at h < s .memory .item i .effect-at 0
+    pub sizes : (i : ℕ) → i < x .items → x .size i ≡ s .memory .item i .size
 
   -- cur i: how many versions of item i have taken effect in l; nreg: how many items
   pub record Shown (k n : ℕ) (l : List ℕ) : Type 0 where
@@ -98,13 +97,13 @@ module _ (s : Catalogue) (invariant : Invariant s) where
     pub before-same : (i j : ℕ) → j < shown i → 2 * s .memory .item i .effect-at j ≡ k → s .memory .item i .author j < n
     pub after : (i j : ℕ) → shown i ≤ j → j < s .memory .item i .valid → k ≤ 2 * s .memory .item i .effect-at j
     pub after-same : (i j : ℕ) → shown i ≤ j → j < s .memory .item i .valid → 2 * s .memory .item i .effect-at j ≡ k → n ≤ s .memory .item i .author j
-    pub value : (i : ℕ) → value-of i (acts-of l) ≡ shown-value (s .memory .item i) (shown i)
+    pub value : (i : ℕ) → object (acts-of l) .value i ≡ shown-value (s .memory .item i) (shown i)
     pub items : ℕ
-    pub items-is : items-of (acts-of l) ≡ items
+    pub items-is : object (acts-of l) .items ≡ items
     pub low : (i : ℕ) → i < items → 0 < shown i
     pub high : (i : ℕ) → items ≤ i → shown i ≡ 0
-    pub sizes : (i : ℕ) → i < items → size-of i (acts-of l) ≡ s .memory .item i .size
-    pub snaps : (h : ℕ) (p : List Act) → Took h p (acts-of l) → Shot h p
+    pub sizes : (i : ℕ) → i < items → object (acts-of l) .size i ≡ s .memory .item i .size
+    pub snaps : (h : ℕ) (p : List Act) → Answered take-snapshot h p (acts-of l) → Shot h (object p)
     pub legal : Legal (acts-of l)
 
   pub record Good (k n : ℕ) (l : List ℕ) : Type 0 where
@@ -130,7 +129,7 @@ module _ (s : Catalogue) (invariant : Invariant s) where
       record {
         once = (λ i. let p : Keyed k n n = A .memory n i in absurd (omega (arith, p .lt (key-unique (s .memory) (s .place n) (p .key) k (p .has) x))),
             A .once);
-        below = λ o c u v w. later (A .below o c u v w);
+        below = λ o c u v w. inr (A .below o c u v w);
         falling = (λ q i. let p : Keyed k n q = A .memory q i in
             omega (arith, key-time (s .memory) (s .place q) (p .key) (p .has) .0, p .le, key-time (s .memory) (s .place n) k x .1), A .falling);
         keys = (λ q i. let p : Keyed k n q = A .memory q i in
@@ -139,13 +138,13 @@ module _ (s : Catalogue) (invariant : Invariant s) where
         here = λ o u v. at o u v (same? o n) }
     where
       put : (o : ℕ) → In o (n ∷ l) → Keyed k (suc n) o
-      put o (first e) = record { key = k; has = subst (λ (o : ℕ). T (keyed (s .memory) (s .place o) k)) (sym e) x; le = omega arith;
+      put o (inl e) = record { key = k; has = subst (λ (o : ℕ). T (keyed (s .memory) (s .place o) k)) (sym e) x; le = omega arith;
           lt = λ z. omega arith; begun = omega arith }
-      put o (later i) = let p : Keyed k n o = A .memory o i in
+      put o (inr i) = let p : Keyed k n o = A .memory o i in
           record { key = p .key; has = p .has; le = p .le; lt = λ e. omega (arith, p .lt e); begun = p .begun }
       at : (o : ℕ) → o < suc n → T (keyed (s .memory) (s .place o) k) → Same o n → In o (n ∷ l)
-      at o u v (eq e) = first e
-      at o u v (ne e) = later (A .here o (omega arith) v)
+      at o u v (eq e) = inl e
+      at o u v (ne e) = inr (A .here o (omega arith) v)
 
   pub listed-next : {k : ℕ} {l : List ℕ} → Listed k (s .now) l → Listed (suc k) 0 l
   listed-next {k} {l} A =
@@ -223,28 +222,23 @@ module _ (s : Catalogue) (invariant : Invariant s) where
       at (Split.less u) (Split.more v) = omega arith
 
   pub shown-is : {k n τ : ℕ} {l : List ℕ} (B : Shown k n l) → 2 * τ + 1 ≡ k → (i j : ℕ) → Sees (s .memory .item i) τ j →
-      value-of i (acts-of l) ≡ s .memory .item i .value j
+      object (acts-of l) .value i ≡ s .memory .item i .value j
   shown-is B q i j x = B .value i ∙ ap (shown-value (s .memory .item i)) (sees-shown B q i j x)
 
   -- ---- from the acts back to the operations
 
-  pub find-read : (i h x : ℕ) (l : List ℕ) → ReadBack i h x (acts-of l) → (o : ℕ) × In o l × (s .fate o .operation ≡ read-snapshot i h)
+  pub find-act : (op : Operation) (x : ℕ) (p : List Act) (l : List ℕ) → Answered op x p (acts-of l) → (o : ℕ) × In o l × (s .fate o .operation ≡ op)
   unfolding acts-of
-  find-read i h x (o ∷ l) (ReadBack.here a e f) = (o, first refl, e)
-  find-read i h x (o ∷ l) (ReadBack.earlier a r) = let y : (o : ℕ) × In o l × (s .fate o .operation ≡ read-snapshot i h) = find-read i h x l r in
-      (y .0, later (y .1), y .2)
-
-  pub find-total : (p h x : ℕ) (l : List ℕ) → TotalBack p h x (acts-of l) → (o : ℕ) × In o l × (s .fate o .operation ≡ total p h)
-  unfolding acts-of
-  find-total i h x (o ∷ l) (TotalBack.here a e f) = (o, first refl, e)
-  find-total i h x (o ∷ l) (TotalBack.earlier a r) = let y : (o : ℕ) × In o l × (s .fate o .operation ≡ total i h) = find-total i h x l r in
-      (y .0, later (y .1), y .2)
+  find-act op x p [] a = absurd a
+  find-act op x p (o ∷ l) (inl (e, f)) = (o, inl refl, sym (ap (λ (a : Act). a .operation) e))
+  find-act op x p (o ∷ l) (inr r) = let y : (o : ℕ) × In o l × (s .fate o .operation ≡ op) = find-act op x p l r in (y .0, inr (y .1), y .2)
 
   pub find-take : (o h : ℕ) (l : List ℕ) → In o l → s .fate o .operation ≡ take-snapshot → answer-at (s .fate o .operation) (s .place o) ≡ h →
-      (p : List Act) × Took h p (acts-of l)
+      (p : List Act) × Answered take-snapshot h p (acts-of l)
   unfolding acts-of
-  find-take o h (q ∷ l) (first e) w a =
-      (acts-of l, Took.here _ (ap (λ (o : ℕ). s .fate o .operation) (sym e) ∙ w) (ap (λ (o : ℕ). answer-at (s .fate o .operation) (s .place o)) (sym e)
-      ∙ a))
-  find-take o h (q ∷ l) (later i) w a = let y : (p : List Act) × Took h p (acts-of l) = find-take o h l i w a in (y .0, Took.earlier _ (y .1))
+  find-take o h [] i w a = absurd i
+  find-take o h (q ∷ l) (inl e) w a =
+      (acts-of l, inl (ap₂ (λ (op : Operation) (x : ℕ). record { operation = op; answer = x }) (sym w ∙ ap (λ (o : ℕ). s .fate o .operation) e)
+          (sym a ∙ ap (λ (o : ℕ). answer-at (s .fate o .operation) (s .place o)) e), refl))
+  find-take o h (q ∷ l) (inr i) w a = let y : (p : List Act) × Answered take-snapshot h p (acts-of l) = find-take o h l i w a in (y .0, inr (y .1))
 

@@ -1,6 +1,6 @@
 -- Replaying the list: what it shows of every item, and that each answer is the one of Definition 1.
 use mathlib.Core.Path.{_≡_, refl, ap, ap₂, sym, _∙_, subst}
-use mathlib.Core.Logic.{_≢_}
+use mathlib.Core.Logic.{_≢_, inl, inr}
 use mathlib.Core.Bool.{cond}
 use mathlib.Core.List.{List, _∷_}
 use Prim.Native.Nat.{ℕ, zero, suc, _+_, _*_, _≤_, _<_, min}
@@ -12,10 +12,10 @@ use Rattle.history.specs.Machine.{Item, Operation, register, v-read, v-c
 use Rattle.history.specs.Facts.{Sees, Sum, empty, skip, plus}
 use Rattle.history.specs.RightAnswers.{RightAnswer, CasSees, differs, same, SnapshotRead, TotalRead, change-answer}
 use Rattle.history.specs.Places.{asked-for, ChangeRight, ObserverRight, PlaceRight, Invariant, not-observing}
-use Rattle.history.specs.Definition1.{Act, changed, value-of, one-more, items-of, sized, size-of, total-to, Took, Right}
+use Rattle.history.specs.Definition1.{Act, Object, apply, object, total-to, total-of, Answered, Right}
 use Rattle.history.specs.OneOrder.{In}
-use Rattle.history.specs.OrderList.{keyed, answer-at, shown-value, acts-of, Keyed, Listed, Shot, Shown, effects-rise, shown-is, find-read,
-    find-total, find-take}
+use Rattle.history.specs.OrderList.{keyed, answer-at, shown-value, acts-of, Keyed, Listed, Shot, Shown, effects-rise, shown-is, find-act,
+    find-take}
 
 abbrev pub operation-tag : Operation → ℕ
 operation-tag (register i v z) = 0
@@ -76,19 +76,19 @@ module _ (s : Catalogue) (invariant : Invariant s) where
           omega (arith, eqb→eq _ k x, O .since, R .when)
 
   -- the sum that a total made is the sum over the items there were when the counter left h
-  pub sum-is : (p h : ℕ) (q : List Act) → h < s .memory .camera .counter → Shot s invariant h q → {o e y u : ℕ} {l : List ℕ} →
-      Sum (s .memory) p h o e y u l → u ≡ total-to (min y (items-of q)) p q
+  pub sum-is : (p h : ℕ) (q : Object) → h < s .memory .camera .counter → Shot s invariant h q → {o e y u : ℕ} {l : List ℕ} →
+      Sum (s .memory) p h o e y u l → u ≡ total-to (min y (q .items)) p q
   unfolding total-to
   sum-is p h q g S empty = subst (λ (n : ℕ). 0 ≡ total-to n p q) none-yet refl
     where
-      none-yet : 0 ≡ min 0 (items-of q)
+      none-yet : 0 ≡ min 0 (q .items)
       none-yet = omega arith
-  sum-is p h q g S (skip {i} {u} {l} o x a) = sum-is p h q g S a ∙ ap (λ (n : ℕ). total-to n p q) (at (split i (items-of q)))
+  sum-is p h q g S (skip {i} {u} {l} o x a) = sum-is p h q g S a ∙ ap (λ (n : ℕ). total-to n p q) (at (split i (q .items)))
     where
-      at : Split i (items-of q) → min i (items-of q) ≡ min (suc i) (items-of q)
+      at : Split i (q .items) → min i (q .items) ≡ min (suc i) (q .items)
       at (Split.less b) = absurd (omega (arith, S .low i b, invariant .kept .memory .item i .counted 0 o .past h x))
       at (Split.more b) = omega arith
-  sum-is p h q g S (plus {i} {u} {l} j r x a) = at (sum-is p h q g S a) (split i (items-of q))
+  sum-is p h q g S (plus {i} {u} {l} j r x a) = at (sum-is p h q g S a) (split i (q .items))
     where
       born : s .memory .item i .effect-at 0 ≤ s .memory .camera .left-at h
       born = at0 (same? 0 j)
@@ -96,23 +96,34 @@ module _ (s : Catalogue) (invariant : Invariant s) where
           at0 : Same 0 j → s .memory .item i .effect-at 0 ≤ s .memory .camera .left-at h
           at0 (eq e) = subst (λ (j : ℕ). s .memory .item i .effect-at j ≤ s .memory .camera .left-at h) (sym e) (x .sees .begun)
           at0 (ne e) = omega (arith, effects-rise s invariant i 0 j (omega arith) (x .sees .have), x .sees .begun)
-      at : u ≡ total-to (min i (items-of q)) p q → Split i (items-of q) →
-          u + cond (eqb (s .memory .item i .value j) p) (s .memory .item i .size) 0 ≡ total-to (min (suc i) (items-of q)) p q
+      at : u ≡ total-to (min i (q .items)) p q → Split i (q .items) →
+          u + cond (eqb (s .memory .item i .value j) p) (s .memory .item i .size) 0 ≡ total-to (min (suc i) (q .items)) p q
       at e (Split.more b) = absurd (omega (arith, S .high i b (omega (arith, x .sees .have)), born))
       at e (Split.less b) =
           subst (λ (n : ℕ). u + cond (eqb (s .memory .item i .value j) p) (s .memory .item i .size) 0 ≡ total-to n p q) (m1)
             (ap₂ (λ (a b : ℕ). a + b) (e ∙ ap (λ (n : ℕ). total-to n p q) m2)
                 (ap₂ (λ (v z : ℕ). cond (eqb v p) z 0) (sym (S .value i j (x .sees))) (sym (S .sizes i b))))
         where
-          m1 : suc i ≡ min (suc i) (items-of q)
+          m1 : suc i ≡ min (suc i) (q .items)
           m1 = omega arith
-          m2 : min i (items-of q) ≡ i
+          m2 : min i (q .items) ≡ i
           m2 = omega arith
+
+  -- and that over all of them
+  pub total-seen : (p h o : ℕ) (l : List ℕ) (τ x : ℕ) → TotalRead (s .memory) p h o l τ x → (q : Object) → Shot s invariant h q → x ≡ total-of p q
+  total-seen p h o l τ x a q S = sum-is p h q (a .gone) S (a .sum) ∙ ap (λ (n : ℕ). total-to n p q) (all (split (a .k) (q .items)))
+    where
+      all : Split (a .k) (q .items) → min (a .k) (q .items) ≡ q .items
+      all (Split.less u) =
+          absurd (omega (arith, S .low (a .k) u, a .covers (a .k) (omega arith) (S .have (a .k) u), invariant .kept .memory .item (a .k) .birth
+          (S .have (a .k) u), a .when))
+      all (Split.more u) = omega arith
 
   -- ---- an operation that sees
 
   module _ {k n : ℕ} {l : List ℕ} (A : Listed s invariant k n l) (B : Shown s invariant k n l) (τ : ℕ) (q : 2 * τ + 1 ≡ k) where
-    pub took : (h : ℕ) → h < s .memory .camera .counter → s .memory .camera .left-at h < τ → (p : List Act) × Took h p (acts-of s invariant l)
+    pub took : (h : ℕ) → h < s .memory .camera .counter → s .memory .camera .left-at h < τ → (p : List Act) × Answered take-snapshot h p
+        (acts-of s invariant l)
     took h g b =
         find-take s invariant (s .memory .camera .mover h) h l
           (A .below (s .memory .camera .mover h) (2 * s .memory .camera .left-at h + 1) (invariant .moved h g .begun)
@@ -126,33 +137,26 @@ module _ (s : Catalogue) (invariant : Invariant s) where
     observer-right (v-read i) c j x b a = a .1 ∙ sym (shown-is s invariant B q i j (a .0))
     observer-right (v-cas i a b) c j x u y = at (y .1)
       where
-        v : value-of i (acts-of s invariant l) ≡ s .memory .item i .value j
+        v : object (acts-of s invariant l) .value i ≡ s .memory .item i .value j
         v = shown-is s invariant B q i j (y .0)
-        at : CasSees (s .memory .item i .value j) a b x → x ≡ cond (eqb (value-of i (acts-of s invariant l)) a) 1 0
-        at (differs e d) = by-eq (λ (z : ℕ). x ≡ z) (value-of i (acts-of s invariant l)) a (λ f. absurd (d (sym v ∙ f))) (λ f. e)
-        at (same e d f) = by-eq (λ (z : ℕ). x ≡ z) (value-of i (acts-of s invariant l)) a (λ f. e) (λ f. absurd (f (v ∙ d)))
+        at : CasSees (s .memory .item i .value j) a b x → x ≡ cond (eqb (object (acts-of s invariant l) .value i) a) 1 0
+        at (differs e d) = by-eq (λ (z : ℕ). x ≡ z) (object (acts-of s invariant l) .value i) a (λ f. absurd (d (sym v ∙ f))) (λ f. e)
+        at (same e d f) = by-eq (λ (z : ℕ). x ≡ z) (object (acts-of s invariant l) .value i) a (λ f. e) (λ f. absurd (f (v ∙ d)))
     observer-right take-snapshot c j x b a =
-        record {
-          reads = λ i y r. let f : (o : ℕ) × In o l × (s .fate o .operation ≡ read-snapshot i x) = find-read s invariant i x y l r in
+        (λ i y past r. let f : (o : ℕ) × In o l × (s .fate o .operation ≡ read-snapshot i x) = find-act s invariant (read-snapshot i x) y past l r in
               let p : Keyed s invariant k n (f .0) = A .memory (f .0) (f .1) in
-              absurd (omega (arith, read-late (p .key) (f .0) i x (p .has) (f .2), p .le, a .1));
-          totals = λ i y r. let f : (o : ℕ) × In o l × (s .fate o .operation ≡ total i x) = find-total s invariant i x y l r in
+              absurd (omega (arith, read-late (p .key) (f .0) i x (p .has) (f .2), p .le, a .1)),
+          λ i y past r. let f : (o : ℕ) × In o l × (s .fate o .operation ≡ total i x) = find-act s invariant (total i x) y past l r in
               let p : Keyed s invariant k n (f .0) = A .memory (f .0) (f .1) in
-              absurd (omega (arith, total-late (p .key) (f .0) i x (p .has) (f .2), p .le, a .1)) }
+              absurd (omega (arith, total-late (p .key) (f .0) i x (p .has) (f .2), p .le, a .1)))
     observer-right (read-snapshot i h) c j x b a =
-        record { taken = took h (a .read .gone) (omega (arith, a .read .when)); same = λ p t. a .is ∙ sym (B .snaps h p t .value i j (a .read .sees)) }
+        (took h (a .read .gone) (omega (arith, a .read .when)), λ p t. a .is ∙ sym (B .snaps h p t .value i j (a .read .sees)))
     observer-right (total p h) c j x b a =
-        record { taken = took h (a .gone) (omega (arith, a .when)); same = λ q t. sum-is p h q (a .gone) (B .snaps h q t) (a .sum)
-            ∙ ap (λ (n : ℕ). total-to n p q) (all q (B .snaps h q t) (split (a .k) (items-of q))) }
-      where
-        all : (q : List Act) → Shot s invariant h q → Split (a .k) (items-of q) → min (a .k) (items-of q) ≡ items-of q
-        all q S (Split.less u) =
-            absurd (omega (arith, S .low (a .k) u, a .covers (a .k) (omega arith) (S .have (a .k) u), invariant .kept .memory .item (a .k) .birth
-            (S .have (a .k) u), a .when))
-        all q S (Split.more u) = omega arith
+        (took h (a .gone) (omega (arith, a .when)), λ q t. total-seen p h n c τ x a (object q) (B .snaps h q t))
 
-    pub observer-one : (operation : Operation) (c : List ℕ) (j x : ℕ) → RightAnswer (s .memory) operation n c τ j x → one-more operation ≡ 0
-    unfolding one-more
+    pub observer-one : (operation : Operation) (c : List ℕ) (j x : ℕ) → RightAnswer (s .memory) operation n c τ j x →
+        apply operation (object (acts-of s invariant l)) .items ≡ object (acts-of s invariant l) .items
+    unfolding apply
     observer-one (register i v z) c j x a = absurd a
     observer-one (v-read i) c j x a = refl
     observer-one (v-cas i a b) c j x y = refl
@@ -160,37 +164,40 @@ module _ (s : Catalogue) (invariant : Invariant s) where
     observer-one (read-snapshot i h) c j x a = refl
     observer-one (total p h) c j x a = refl
 
-    pub observer-size : (operation : Operation) (c : List ℕ) (j x : ℕ) → RightAnswer (s .memory) operation n c τ j x → (i old : ℕ) →
-        sized i operation old ≡ old
-    unfolding sized
-    observer-size (register i v z) c j x a i' old = absurd a
-    observer-size (v-read i) c j x a i' old = refl
-    observer-size (v-cas i a b) c j x y i' old = refl
-    observer-size take-snapshot c j x a i' old = refl
-    observer-size (read-snapshot i h) c j x a i' old = refl
-    observer-size (total p h) c j x a i' old = refl
+    pub observer-size : (operation : Operation) (c : List ℕ) (j x : ℕ) → RightAnswer (s .memory) operation n c τ j x → (i : ℕ) →
+        apply operation (object (acts-of s invariant l)) .size i ≡ object (acts-of s invariant l) .size i
+    unfolding apply
+    observer-size (register i v z) c j x a i' = absurd a
+    observer-size (v-read i) c j x a i' = refl
+    observer-size (v-cas i a b) c j x y i' = refl
+    observer-size take-snapshot c j x a i' = refl
+    observer-size (read-snapshot i h) c j x a i' = refl
+    observer-size (total p h) c j x a i' = refl
 
     pub observer-same : (operation : Operation) (c : List ℕ) (j x : ℕ) → RightAnswer (s .memory) operation n c τ j x → (i : ℕ) →
-        changed i operation (value-of i (acts-of s invariant l)) ≡ value-of i (acts-of s invariant l)
-    unfolding changed
+        apply operation (object (acts-of s invariant l)) .value i ≡ object (acts-of s invariant l) .value i
+    unfolding apply put
     observer-same (register i v z) c j x a i' = absurd a
     observer-same (v-read i) c j x a i' = refl
     observer-same (v-cas i a b) c j x y i' =
-        by-eq (λ (z : ℕ). z ≡ value-of i' (acts-of s invariant l)) i' i
-          (λ e. by-eq (λ (z : ℕ). z ≡ value-of i' (acts-of s invariant l)) (value-of i' (acts-of s invariant l)) a (λ f. at (y .1) e f) (λ f. refl))
+        by-eq (λ (z : ℕ). z ≡ object (acts-of s invariant l) .value i') i' i
+          (λ e. by-eq (λ (z : ℕ). z ≡ object (acts-of s invariant l) .value i') (object (acts-of s invariant l) .value i) a
+            (λ f. at (y .1) e (ap (λ (i : ℕ). object (acts-of s invariant l) .value i) e ∙ f))
+            (λ f. ap (λ (i : ℕ). object (acts-of s invariant l) .value i) (sym e)))
           (λ e. refl)
       where
-        v : value-of i (acts-of s invariant l) ≡ s .memory .item i .value j
+        v : object (acts-of s invariant l) .value i ≡ s .memory .item i .value j
         v = shown-is s invariant B q i j (y .0)
-        at : CasSees (s .memory .item i .value j) a b x → i' ≡ i → value-of i' (acts-of s invariant l) ≡ a → b ≡ value-of i' (acts-of s invariant l)
-        at (differs e d) p f = absurd (d (sym v ∙ ap (λ (i : ℕ). value-of i (acts-of s invariant l)) (sym p) ∙ f))
+        at : CasSees (s .memory .item i .value j) a b x → i' ≡ i → object (acts-of s invariant l) .value i' ≡ a → b ≡ object
+            (acts-of s invariant l) .value i'
+        at (differs e d) p f = absurd (d (sym v ∙ ap (λ (i : ℕ). object (acts-of s invariant l) .value i) (sym p) ∙ f))
         at (same e d g) p f = g ∙ sym f
     observer-same take-snapshot c j x a i' = refl
     observer-same (read-snapshot i h) c j x a i' = refl
     observer-same (total p h) c j x a i' = refl
 
     pub shown-observer : (j x : ℕ) → s .place n ≡ observes τ j x → Shown s invariant k (suc n) (n ∷ l)
-    unfolding acts-of value-of items-of size-of
+    unfolding acts-of object
     shown-observer j x e =
         record {
           shown = B .shown; shown-valid = B .shown-valid; before = B .before; after = B .after;
@@ -200,8 +207,8 @@ module _ (s : Catalogue) (invariant : Invariant s) where
               not-observing (invariant .kept .versions-right i j (omega (arith, invariant .kept .memory .item i .valid-published))) e);
           value = λ i. observer-same (s .fate n .operation) (s .fate n .lines) j x (O .seen) i ∙ B .value i;
           items = B .items; low = B .low; high = B .high;
-          items-is = omega (arith, observer-one (s .fate n .operation) (s .fate n .lines) j x (O .seen), B .items-is);
-          sizes = λ i p. observer-size (s .fate n .operation) (s .fate n .lines) j x (O .seen) i _ ∙ B .sizes i p;
+          items-is = observer-one (s .fate n .operation) (s .fate n .lines) j x (O .seen) ∙ B .items-is;
+          sizes = λ i p. observer-size (s .fate n .operation) (s .fate n .lines) j x (O .seen) i ∙ B .sizes i p;
           snaps = λ h p t. snap h p t;
           legal = (subst (λ (y : ℕ). Right (s .fate n .operation) y (acts-of s invariant l)) (sym answer)
               (observer-right (s .fate n .operation) (s .fate n .lines) j x (O .since) (O .seen)), B .legal) }
@@ -210,7 +217,7 @@ module _ (s : Catalogue) (invariant : Invariant s) where
         O = subst (λ (p : Place). PlaceRight (s .now) n (s .memory) (s .fate n) p) e (invariant .kept .places n)
         answer : answer-at (s .fate n .operation) (s .place n) ≡ x
         answer = ap (answer-at (s .fate n .operation)) e
-        shot : (h : ℕ) → s .memory .camera .left-at h ≡ τ → Shot s invariant h (acts-of s invariant l)
+        shot : (h : ℕ) → s .memory .camera .left-at h ≡ τ → Shot s invariant h (object (acts-of s invariant l))
         shot h e =
             record {
               value = λ i j y. shown-is s invariant B q i j (subst (λ (τ : ℕ). Sees (s .memory .item i) τ j) e y);
@@ -218,12 +225,14 @@ module _ (s : Catalogue) (invariant : Invariant s) where
               have = λ i p. omega (arith, B .low i (omega (arith, B .items-is)), B .shown-valid i);
               high = λ i p r. omega (arith, B .after i 0 (omega (arith, B .high i (omega (arith, B .items-is)))) r);
               sizes = λ i p. B .sizes i (omega (arith, B .items-is)) }
-        snap : (h : ℕ) (p : List Act) → Took h p (acts-of s invariant (n ∷ l)) → Shot s invariant h p
-        snap h p (Took.here a w u) =
+        snap : (h : ℕ) (p : List Act) → Answered take-snapshot h p (acts-of s invariant (n ∷ l)) → Shot s invariant h (object p)
+        snap h p (inl (w, u)) =
             let Z : (x < s .memory .camera .counter) × (s .memory .camera .left-at x ≡ τ) =
-                subst (λ (operation : Operation). RightAnswer (s .memory) operation n (s .fate n .lines) τ j x) w (O .seen) in
-            shot h (ap (s .memory .camera .left-at) (sym u ∙ answer) ∙ Z .1)
-        snap h p (Took.earlier a t) = B .snaps h p t
+                subst (λ (operation : Operation). RightAnswer (s .memory) operation n (s .fate n .lines) τ j x)
+                    (sym (ap (λ (a : Act). a .operation) w)) (O .seen) in
+            subst (λ (p : List Act). Shot s invariant h (object p)) (sym u)
+              (shot h (ap (s .memory .camera .left-at) (ap (λ (a : Act). a .answer) w ∙ answer) ∙ Z .1))
+        snap h p (inr t) = B .snaps h p t
 
   -- ---- an operation that changes an item
 
@@ -264,10 +273,10 @@ module _ (s : Catalogue) (invariant : Invariant s) where
     more-items zero = suc (B .items)
     more-items (suc j) = B .items
 
-    pub change-one : (j : ℕ) → one-more (asked-for (s .memory .item i) i j) + B .items ≡ more-items j
-    unfolding one-more more-items
-    change-one zero = omega arith
-    change-one (suc j) = omega arith
+    pub change-one : (j : ℕ) → apply (asked-for (s .memory .item i) i j) (object (acts-of s invariant l)) .items ≡ more-items j
+    unfolding apply more-items
+    change-one zero = ap suc (B .items-is)
+    change-one (suc j) = B .items-is
 
     pub change-low : (j : ℕ) → B .shown i ≡ j → (i' : ℕ) → i' < more-items j → 0 < put (B .shown) i (suc j) i'
     unfolding more-items
@@ -281,8 +290,8 @@ module _ (s : Catalogue) (invariant : Invariant s) where
         (λ f. B .high i' p)
 
     pub change-size : (j : ℕ) → B .shown i ≡ j → (i' : ℕ) → i' < more-items j →
-        sized i' (asked-for (s .memory .item i) i j) (size-of i' (acts-of s invariant l)) ≡ s .memory .item i' .size
-    unfolding more-items sized
+        apply (asked-for (s .memory .item i) i j) (object (acts-of s invariant l)) .size i' ≡ s .memory .item i' .size
+    unfolding more-items apply put
     change-size zero c i' p = by-eq (λ (z : ℕ). z ≡ s .memory .item i' .size) i' i (λ f. ap (λ (i : ℕ). s .memory .item i .size) (sym f))
         (λ f. B .sizes i' (omega (arith, next-item c)))
     change-size (suc j) c i' p = B .sizes i' p
@@ -290,28 +299,28 @@ module _ (s : Catalogue) (invariant : Invariant s) where
     pub change-legal : (j : ℕ) → B .shown i ≡ j → Right (asked-for (s .memory .item i) i j) (change-answer (asked-for (s .memory .item i) i j))
         (acts-of s invariant l)
     change-legal zero c = (refl, B .items-is ∙ sym (next-item (cur-is ∙ sym cur-is ∙ c)))
-    change-legal (suc j) c = by-eq (λ (z : ℕ). 1 ≡ z) (value-of i (acts-of s invariant l)) (s .memory .item i .value j) (λ f. refl)
+    change-legal (suc j) c = by-eq (λ (z : ℕ). 1 ≡ z) (object (acts-of s invariant l) .value i) (s .memory .item i .value j) (λ f. refl)
         (λ f. absurd (f (B .value i ∙ ap (shown-value (s .memory .item i)) c)))
 
     pub change-value : (j : ℕ) → B .shown i ≡ j → (i' : ℕ) →
-        changed i' (asked-for (s .memory .item i) i j) (value-of i' (acts-of s invariant l)) ≡ shown-value (s .memory .item i')
+        apply (asked-for (s .memory .item i) i j) (object (acts-of s invariant l)) .value i' ≡ shown-value (s .memory .item i')
         (put (B .shown) i (suc j) i')
-    unfolding changed
+    unfolding apply put
     change-value zero c i' =
         by-eq (λ (z : ℕ). z ≡ shown-value (s .memory .item i') (put (B .shown) i 1 i')) i' i
           (λ f. ap (λ (i : ℕ). s .memory .item i .value 0) (sym f) ∙ ap (shown-value (s .memory .item i')) (sym (put-same (B .shown) i 1 i' f)))
           (λ f. B .value i' ∙ ap (shown-value (s .memory .item i')) (sym (put-other (B .shown) i 1 i' f)))
     change-value (suc j) c i' =
         by-eq (λ (z : ℕ). z ≡ shown-value (s .memory .item i') (put (B .shown) i (suc (suc j)) i')) i' i
-          (λ f. by-eq (λ (z : ℕ). z ≡ shown-value (s .memory .item i') (put (B .shown) i (suc (suc j)) i')) (value-of i' (acts-of s invariant l))
+          (λ f. by-eq (λ (z : ℕ). z ≡ shown-value (s .memory .item i') (put (B .shown) i (suc (suc j)) i')) (object (acts-of s invariant l) .value i)
               (s .memory .item i .value j)
             (λ g. ap (λ (i : ℕ). s .memory .item i .value (suc j)) (sym f)
                 ∙ ap (shown-value (s .memory .item i')) (sym (put-same (B .shown) i (suc (suc j)) i' f)))
-            (λ g. absurd (g (ap (λ (i : ℕ). value-of i (acts-of s invariant l)) f ∙ B .value i ∙ ap (shown-value (s .memory .item i)) c))))
+            (λ g. absurd (g (B .value i ∙ ap (shown-value (s .memory .item i)) c))))
           (λ f. B .value i' ∙ ap (shown-value (s .memory .item i')) (sym (put-other (B .shown) i (suc (suc j)) i' f)))
 
     pub shown-change : Shown s invariant k (suc n) (n ∷ l)
-    unfolding acts-of value-of items-of size-of
+    unfolding acts-of object
     shown-change =
         record {
           shown = put (B .shown) i (suc j);
@@ -332,12 +341,14 @@ module _ (s : Catalogue) (invariant : Invariant s) where
             (λ f p. subst (λ (i' : ℕ). j' < s .memory .item i' .valid → 2 * s .memory .item i' .effect-at j' ≡ k → suc n ≤ s .memory .item i' .author j')
                 (sym f) (λ r g. absurd (omega (arith, effects-rise s invariant i j j' p r))))
             (λ f p r g. omega (arith, B .after-same i' j' p r g, other i' j' f r));
-          value = λ i'. ap (λ (operation : Operation). changed i' operation (value-of i' (acts-of s invariant l))) operation ∙ change-value j cur-is i';
+          value = λ i'. ap (λ (operation : Operation). apply operation (object (acts-of s invariant l)) .value i') operation ∙ change-value j cur-is
+              i';
           items = more-items j;
-          items-is = ap₂ (λ (operation : Operation) (r : ℕ). one-more operation + r) operation (B .items-is) ∙ change-one j;
+          items-is = ap (λ (operation : Operation). apply operation (object (acts-of s invariant l)) .items) operation ∙ change-one j;
           low = change-low j cur-is;
           high = change-high j cur-is;
-          sizes = λ i' p. ap (λ (operation : Operation). sized i' operation (size-of i' (acts-of s invariant l))) operation ∙ change-size j cur-is i' p;
+          sizes = λ i' p. ap (λ (operation : Operation). apply operation (object (acts-of s invariant l)) .size i') operation ∙ change-size j cur-is
+              i' p;
           snaps = λ h p t. snap h p t;
           legal = (subst (λ (y : ℕ). Right (s .fate n .operation) y (acts-of s invariant l)) (sym (ap (answer-at (s .fate n .operation)) e))
               (subst (λ (o : Operation). Right o (change-answer o) (acts-of s invariant l)) (sym operation) (change-legal j cur-is)), B .legal) }
@@ -354,8 +365,8 @@ module _ (s : Catalogue) (invariant : Invariant s) where
         other i' j' f r z =
             f (ap place-item (sym (invariant .kept .versions-right i' j' (omega (arith, invariant .kept .memory .item i' .valid-published)) .valid r)
             ∙ ap (s .place) z ∙ e))
-        snap : (h : ℕ) (p : List Act) → Took h p (acts-of s invariant (n ∷ l)) → Shot s invariant h p
-        snap h p (Took.here a w u) = let z : 3 ≤ 2 = subst (λ (n : ℕ). n ≤ 2) (ap operation-tag (sym operation ∙ w))
+        snap : (h : ℕ) (p : List Act) → Answered take-snapshot h p (acts-of s invariant (n ∷ l)) → Shot s invariant h (object p)
+        snap h p (inl (w, u)) = let z : 3 ≤ 2 = subst (λ (n : ℕ). n ≤ 2) (ap operation-tag (sym operation ∙ sym (ap (λ (a : Act). a .operation) w)))
             (asked-tag (s .memory .item i) i j) in absurd (omega arith)
-        snap h p (Took.earlier a t) = B .snaps h p t
+        snap h p (inr t) = B .snaps h p t
 

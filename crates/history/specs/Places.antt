@@ -8,7 +8,7 @@ use native.Mathlib.Omega.{arith}
 use Rattle.history.specs.Tools.{put, put-all, put-both, put-same, put-other, Split, split, Same, eq, ne, same?}
 use Rattle.history.specs.Machine.{Item, Memory, Operation, register, v-read, v-cas, take-snapshot, read-snapshot, total, Phase, Effect,
     nothing, counts, publishes, stamps, takes-node, gives-back, memory-after, place-after, published, stamped, Place, unplaced, awaits, changes,
-    observes, Fate, Worker, idle, busy, Catalogue, ended, turned-away}
+    observes, Entry, Worker, idle, busy, Catalogue, ended, turned-away}
 use Rattle.history.specs.Facts.{MemoryFacts, LaterItem, Later}
 use Rattle.history.specs.Later.{sees-later, fetched-later, read-later, sum-later}
 use Rattle.history.specs.Changes.{Allowed, effect-later, effect-keeps, item-same, published-later, stamped-later}
@@ -22,12 +22,12 @@ abbrev pub asked-for : Item → ℕ → ℕ → Operation
 asked-for it i zero = register i (it .value 0) (it .size)
 asked-for it i (suc j) = v-cas i (it .value j) (it .value (suc j))
 
-pub record VersionRight (fate : ℕ → Fate) (place : ℕ → Place) (i : ℕ) (it : Item) (j : ℕ) : Type 0 where
+pub record VersionRight (fate : ℕ → Entry) (place : ℕ → Place) (i : ℕ) (it : Item) (j : ℕ) : Type 0 where
   pub asked : fate (it .author j) .operation ≡ asked-for it i j
   pub valid : j < it .valid → place (it .author j) ≡ changes i j
   pub unset : it .valid ≤ j → place (it .author j) ≡ awaits i j
 
-pub record ChangeRight (t o i j : ℕ) (m : Memory) (f : Fate) : Type 0 where
+pub record ChangeRight (t o i j : ℕ) (m : Memory) (f : Entry) : Type 0 where
   pub good : j < m .item i .valid
   pub mine : m .item i .author j ≡ o
   pub till : f .done ≡ true → m .item i .effect-at j ≤ f .ended-at
@@ -36,7 +36,7 @@ pub record ChangeRight (t o i j : ℕ) (m : Memory) (f : Fate) : Type 0 where
   pub register-done : j ≡ 0 → f .done ≡ true
   pub register-ended : j ≡ 0 → f .ended-at ≡ o
 
-pub record ObserverRight (t o τ j x : ℕ) (m : Memory) (f : Fate) : Type 0 where
+pub record ObserverRight (t o τ j x : ℕ) (m : Memory) (f : Entry) : Type 0 where
   pub done : f .done ≡ true
   pub is : f .answer ≡ x
   pub since : o < τ
@@ -45,20 +45,20 @@ pub record ObserverRight (t o τ j x : ℕ) (m : Memory) (f : Fate) : Type 0 whe
   pub seen : RightAnswer m (f .operation) o (f .lines) τ j x
   pub last : AtLastStep (f .operation) τ (suc (f .ended-at))
 
-abbrev pub PlaceRight : (t o : ℕ) → Memory → Fate → Place → Type 0
+abbrev pub PlaceRight : (t o : ℕ) → Memory → Entry → Place → Type 0
 PlaceRight t o m f unplaced = f .done ≡ false
 PlaceRight t o m f (awaits i j) = f .done ≡ false
 PlaceRight t o m f (changes i j) = ChangeRight t o i j m f
 PlaceRight t o m f (observes τ j x) = ObserverRight t o τ j x m f
 
-pub record Kept (t : ℕ) (m : Memory) (fate : ℕ → Fate) (place : ℕ → Place) : Type 0 where
+pub record Kept (t : ℕ) (m : Memory) (fate : ℕ → Entry) (place : ℕ → Place) : Type 0 where
   pub memory : MemoryFacts t m
   pub versions-right : (i j : ℕ) → j < m .item i .versions → VersionRight fate place i (m .item i) j
   pub places : (o : ℕ) → PlaceRight t o m (fate o) (place o)
   pub lines : (o : ℕ) → FateLines (fate o)
 
 -- the worker w runs operation o
-pub record InOperation (t : ℕ) (m : Memory) (f : Fate) (p : Place) (w o : ℕ) (l : List ℕ) (ph : Phase) : Type 0 where
+pub record InOperation (t : ℕ) (m : Memory) (f : Entry) (p : Place) (w o : ℕ) (l : List ℕ) (ph : Phase) : Type 0 where
   pub begun : o < t
   pub worker : f .worker ≡ w
   pub operation : f .operation ≡ phase-operation ph
@@ -66,12 +66,12 @@ pub record InOperation (t : ℕ) (m : Memory) (f : Fate) (p : Place) (w o : ℕ)
   pub unpub : has-published ph ≡ false → p ≡ unplaced
   pub facts : PhaseFacts t o l m ph
 
-abbrev pub WorkerRight : ℕ → Memory → (ℕ → Fate) → (ℕ → Place) → ℕ → Worker → Type 0
+abbrev pub WorkerRight : ℕ → Memory → (ℕ → Entry) → (ℕ → Place) → ℕ → Worker → Type 0
 WorkerRight t m fate place w idle = Unit {0}
 WorkerRight t m fate place w (busy o l ph) = InOperation t m (fate o) (place o) w o l ph
 
 -- the counter left h by the takeSnapshot that is on record for it
-pub record Moved (m : Memory) (fate : ℕ → Fate) (place : ℕ → Place) (t h : ℕ) : Type 0 where
+pub record Moved (m : Memory) (fate : ℕ → Entry) (place : ℕ → Place) (t h : ℕ) : Type 0 where
   pub begun : m .camera .mover h < t
   pub operation : fate (m .camera .mover h) .operation ≡ take-snapshot
   pub at : place (m .camera .mover h) ≡ observes (m .camera .left-at h) 0 h
@@ -137,7 +137,7 @@ module _ {t : ℕ} {m m' : Memory} (known : MemoryFacts t m) (L : Later t m m') 
           none-yet (Split.less z) = absurd (omega (arith, known .item y .first z))
           none-yet (Split.more z) = omega arith
 
-  pub place-later : (o : ℕ) (f : Fate) (p : Place) → PlaceRight t o m f p → PlaceRight (suc t) o m' f p
+  pub place-later : (o : ℕ) (f : Entry) (p : Place) → PlaceRight t o m f p → PlaceRight (suc t) o m' f p
   place-later o f unplaced a = a
   place-later o f (awaits i j) a = a
   place-later o f (changes i j) a =
@@ -155,7 +155,8 @@ asked-later L i zero p = ap₂ (λ (v z : ℕ). register i v z) (L .value 0 p) (
 asked-later L i (suc j) p = ap₂ (λ (v u : ℕ). v-cas i v u) (L .value j (omega arith)) (L .value (suc j) p)
 
 -- a version that was there, in a later row and a later table
-pub version-later : {t : ℕ} {it it' : Item} (L : LaterItem t it it') {fate fate' : ℕ → Fate} {place place' : ℕ → Place} (i j : ℕ) → j < it .versions →
+pub version-later : {t : ℕ} {it it' : Item} (L : LaterItem t it it') {fate fate' : ℕ → Entry} {place place' : ℕ → Place} (i j : ℕ) → j < it .versions
+    →
     (j < it' .valid → j < it .valid) → fate' (it .author j) .operation ≡ fate (it .author j) .operation → place' (it .author j) ≡ place (it .author j) →
     VersionRight fate place i it j → VersionRight fate' place' i it' j
 version-later {it = it} {it' = it'} L {fate} {fate'} {place} {place'} i j p k e q v =
@@ -168,7 +169,8 @@ version-later {it = it} {it' = it'} L {fate} {fate'} {place} {place'} i j p k e 
     b = L .author j p
 
 -- a version's operation has a place of its own
-pub not-none : {fate : ℕ → Fate} {place : ℕ → Place} {i : ℕ} {it : Item} {j o : ℕ} → VersionRight fate place i it j → place o ≡ unplaced → it .author j ≢ o
+pub not-none : {fate : ℕ → Entry} {place : ℕ → Place} {i : ℕ} {it : Item} {j o : ℕ} → VersionRight fate place i it j → place o ≡ unplaced →
+    it .author j ≢ o
 not-none {fate} {place} {i} {it} {j} {o} v e q = at (split j (it .valid))
   where
     at : Split j (it .valid) → ⊥
@@ -187,7 +189,8 @@ pos-of (awaits i j) = j
 pos-of (changes i j) = j
 pos-of (observes τ j x) = 0
 
-pub not-awaiting : {fate : ℕ → Fate} {place : ℕ → Place} {i : ℕ} {it : Item} {j o i' j' : ℕ} → VersionRight fate place i it j → place o ≡ awaits i' j' →
+pub not-awaiting : {fate : ℕ → Entry} {place : ℕ → Place} {i : ℕ} {it : Item} {j o i' j' : ℕ} → VersionRight fate place i it j → place o ≡ awaits i'
+    j' →
     (i ≡ i' → j ≡ j' → ⊥) → it .author j ≢ o
 not-awaiting {fate} {place} {i} {it} {j} {o} {i'} {j'} v e d q = at (split j (it .valid))
   where
@@ -196,7 +199,7 @@ not-awaiting {fate} {place} {i} {it} {j} {o} {i'} {j'} v e d q = at (split j (it
     at (Split.more p) = d (ap item-of (sym (v .unset p) ∙ ap place q ∙ e)) (ap pos-of (sym (v .unset p) ∙ ap place q ∙ e))
 
 -- an operation with another place
-pub not-observing : {fate : ℕ → Fate} {place : ℕ → Place} {i : ℕ} {it : Item} {j o τ k x : ℕ} → VersionRight fate place i it j →
+pub not-observing : {fate : ℕ → Entry} {place : ℕ → Place} {i : ℕ} {it : Item} {j o τ k x : ℕ} → VersionRight fate place i it j →
     place o ≡ observes τ k x → it .author j ≢ o
 not-observing {fate} {place} {i} {it} {j} {o} v e q = at (split j (it .valid))
   where
@@ -207,7 +210,7 @@ not-observing {fate} {place} {i} {it} {j} {o} v e q = at (split j (it .valid))
 pub obs-not-none : (place : ℕ → Place) {q o τ k x : ℕ} → place q ≡ observes τ k x → place o ≡ unplaced → q ≢ o
 obs-not-none place e f p = let z : _≡_ {A = ℕ} 3 0 = ap tag (sym e ∙ ap place p ∙ f) in omega arith
 
-pub moved-later : {t : ℕ} {m m' : Memory} → Later t m m' → {fate fate' : ℕ → Fate} {place place' : ℕ → Place} (h : ℕ) → h < m .camera .counter →
+pub moved-later : {t : ℕ} {m m' : Memory} → Later t m m' → {fate fate' : ℕ → Entry} {place place' : ℕ → Place} (h : ℕ) → h < m .camera .counter →
     fate' (m .camera .mover h) .operation ≡ fate (m .camera .mover h) .operation → place' (m .camera .mover h) ≡ place (m .camera .mover h) →
     Moved m fate place t h → Moved m' fate' place' (suc t) h
 moved-later L {fate} {fate'} {place} {place'} h p e f x =
@@ -216,7 +219,7 @@ moved-later L {fate} {fate'} {place} {place'} h p e f x =
 
 -- ---- what a step does to the memory
 
-module _ {t : ℕ} {m : Memory} {fate : ℕ → Fate} {place : ℕ → Place} (R : Kept t m fate place) (o : ℕ) (op : Operation) (l : Bool)
+module _ {t : ℕ} {m : Memory} {fate : ℕ → Entry} {place : ℕ → Place} (R : Kept t m fate place) (o : ℕ) (op : Operation) (l : Bool)
     (asks : fate o .operation ≡ op) (unpub : l ≡ false → place o ≡ unplaced) where
   own-awaits : (i v y : ℕ) → Allowed t o op l m (publishes i v y) → (q : ℕ) → PlaceRight (suc t) q (memory-after t o (publishes i v y) m) (fate q)
       (put place o (awaits i (m .item i .versions)) q)
@@ -318,7 +321,7 @@ module _ {t : ℕ} {m : Memory} {fate : ℕ → Fate} {place : ℕ → Place} (R
 
 -- ---- what a step does to the table: the operation o ends
 
-pub kept-in-table : {t : ℕ} {m : Memory} {fate fate' : ℕ → Fate} {place place' : ℕ → Place} → Kept t m fate place →
+pub kept-in-table : {t : ℕ} {m : Memory} {fate fate' : ℕ → Entry} {place place' : ℕ → Place} → Kept t m fate place →
     ((i j : ℕ) → j < m .item i .versions → fate' (m .item i .author j) .operation ≡ fate (m .item i .author j) .operation) →
     ((i j : ℕ) → j < m .item i .versions → place' (m .item i .author j) ≡ place (m .item i .author j)) → ((o : ℕ) → FateLines (fate' o)) →
     ((o : ℕ) → PlaceRight t o m (fate' o) (place' o)) → Kept t m fate' place'
@@ -326,17 +329,17 @@ kept-in-table {t} {m} {fate} {fate'} {place} {place'} R hw hp hl hk =
     record { lines = hl; memory = R .memory; versions-right = λ i j p. version-later (item-same {t = t} (R .memory .item i .valid-published)) i j p
         (λ z. z) (hw i j p) (hp i j p) (R .versions-right i j p); places = hk }
 
-pub what-same : (fate : ℕ → Fate) (o x t : ℕ) (n : List ℕ) (q : ℕ) → put fate o (ended (fate o) x t n) q .operation ≡ fate q .operation
+pub what-same : (fate : ℕ → Entry) (o x t : ℕ) (n : List ℕ) (q : ℕ) → put fate o (ended (fate o) x t n) q .operation ≡ fate q .operation
 unfolding ended
-what-same fate o x t n q = put-all (λ (q : ℕ) (f : Fate). f .operation ≡ fate q .operation) fate o (ended (fate o) x t n) q
+what-same fate o x t n q = put-all (λ (q : ℕ) (f : Entry). f .operation ≡ fate q .operation) fate o (ended (fate o) x t n) q
     (λ e. ap (λ (q : ℕ). fate q .operation) (sym e)) (λ e. refl)
 
-pub what-refused : (fate : ℕ → Fate) (o x t : ℕ) (n : List ℕ) (q : ℕ) → put fate o (turned-away (fate o) x t n) q .operation ≡ fate q .operation
+pub what-refused : (fate : ℕ → Entry) (o x t : ℕ) (n : List ℕ) (q : ℕ) → put fate o (turned-away (fate o) x t n) q .operation ≡ fate q .operation
 unfolding turned-away
-what-refused fate o x t n q = put-all (λ (q : ℕ) (f : Fate). f .operation ≡ fate q .operation) fate o (turned-away (fate o) x t n) q
+what-refused fate o x t n q = put-all (λ (q : ℕ) (f : Entry). f .operation ≡ fate q .operation) fate o (turned-away (fate o) x t n) q
     (λ e. ap (λ (q : ℕ). fate q .operation) (sym e)) (λ e. refl)
 
-module _ {t : ℕ} {m : Memory} {fate : ℕ → Fate} {place : ℕ → Place} (R : Kept (suc t) m fate place) (o : ℕ) (n : List ℕ) (op : Operation)
+module _ {t : ℕ} {m : Memory} {fate : ℕ → Entry} {place : ℕ → Place} (R : Kept (suc t) m fate place) (o : ℕ) (n : List ℕ) (op : Operation)
     (asks : fate o .operation ≡ op) where
   whole-lines : (x : ℕ) → WholeLines op n → FateLines (ended (fate o) x t n)
   unfolding ended
@@ -345,17 +348,17 @@ module _ {t : ℕ} {m : Memory} {fate : ℕ → Fate} {place : ℕ → Place} (R
   pub kept-refused : (x : ℕ) → RefusedLines x op n → place o ≡ unplaced → Kept (suc t) m (put fate o (turned-away (fate o) x t n)) place
   unfolding turned-away
   kept-refused x r e = kept-in-table R (λ i j p. what-refused fate o x t n _) (λ i j p. refl)
-    (λ q. put-all (λ (q : ℕ) (f : Fate). FateLines f) fate o (turned-away (fate o) x t n) q
+    (λ q. put-all (λ (q : ℕ) (f : Entry). FateLines f) fate o (turned-away (fate o) x t n) q
         (λ f. record { whole = λ d. absurd (mathlib.Core.Bool.true≢false (sym d)); refused = λ d. subst (λ (op : Operation). RefusedLines x op n)
         (sym asks) r }) (λ f. R .lines q))
-    (λ q. put-all (λ (q : ℕ) (f : Fate). PlaceRight (suc t) q m f (place q)) fate o (turned-away (fate o) x t n) q
+    (λ q. put-all (λ (q : ℕ) (f : Entry). PlaceRight (suc t) q m f (place q)) fate o (turned-away (fate o) x t n) q
         (λ f. subst (λ (p : Place). PlaceRight (suc t) q m (turned-away (fate o) x t n) p) (sym (ap place f ∙ e)) refl) (λ f. R .places q))
 
   pub kept-changed : (x : ℕ) → EndsChange o n m op x → Kept (suc t) m (put fate o (ended (fate o) x t n)) place
   unfolding ended
   kept-changed x E = kept-in-table R (λ i j p. what-same fate o x t n _) (λ i j p. refl)
-    (λ q. put-all (λ (q : ℕ) (f : Fate). FateLines f) fate o (ended (fate o) x t n) q (λ f. whole-lines x (E .lines)) (λ f. R .lines q))
-    (λ q. put-all (λ (q : ℕ) (f : Fate). PlaceRight (suc t) q m f (place q)) fate o (ended (fate o) x t n) q
+    (λ q. put-all (λ (q : ℕ) (f : Entry). FateLines f) fate o (ended (fate o) x t n) q (λ f. whole-lines x (E .lines)) (λ f. R .lines q))
+    (λ q. put-all (λ (q : ℕ) (f : Entry). PlaceRight (suc t) q m f (place q)) fate o (ended (fate o) x t n) q
         (λ e. subst (λ (q : ℕ). PlaceRight (suc t) q m (ended (fate o) x t n) (place q)) (sym e) mine) (λ e. R .places q))
     where
       at : place o ≡ changes (E .i) (E .j)
@@ -373,8 +376,8 @@ module _ {t : ℕ} {m : Memory} {fate : ℕ → Fate} {place : ℕ → Place} (R
   unfolding ended
   kept-answered x τ j e a b c z k = kept-in-table R (λ i j p. what-same fate o x t n _)
       (λ i k p. put-other place o (observes τ j x) (m .item i .author k) (not-none (R .versions-right i k p) e))
-    (λ q. put-all (λ (q : ℕ) (f : Fate). FateLines f) fate o (ended (fate o) x t n) q (λ f. whole-lines x k) (λ f. R .lines q))
-    (λ q. put-both (λ (q : ℕ) (f : Fate) (p : Place). PlaceRight (suc t) q m f p) fate place o (ended (fate o) x t n) (observes τ j x) q
+    (λ q. put-all (λ (q : ℕ) (f : Entry). FateLines f) fate o (ended (fate o) x t n) q (λ f. whole-lines x k) (λ f. R .lines q))
+    (λ q. put-both (λ (q : ℕ) (f : Entry) (p : Place). PlaceRight (suc t) q m f p) fate place o (ended (fate o) x t n) (observes τ j x) q
         (λ p. subst (λ (q : ℕ). PlaceRight (suc t) q m (ended (fate o) x t n) (observes τ j x)) (sym p) mine) (λ p. R .places q))
     where
       mine : PlaceRight (suc t) o m (ended (fate o) x t n) (observes τ j x)

@@ -2,13 +2,14 @@
 use mathlib.Core.Path.{_≡_}
 use mathlib.Core.Logic.{_≢_, _⊎_}
 use mathlib.Core.Bool.{Bool, true, false}
-use mathlib.Core.List.{List, [], _∷_}
+use mathlib.Core.List.{List, _∷_}
 use Prim.Native.Nat.{ℕ, suc, _≤_, _<_, max}
 use Rattle.history.specs.Machine.{Item, Memory, Operation, register, v-read, v-cas, take-snapshot, read-snapshot, total, Then, then-39,
     then-43, then-48, then-52, then-34, then-total-34, Phase, line-37, line-39, line-41, line-43, line-45, line-46, line-48, line-50, line-51,
     line-52, line-5, line-6, line-32, line-34, total-32, total-34, closing, line-20, line-21, line-22, Effect, nothing, counts, publishes, stamps,
-    takes-node, gives-back, Comes, goes-on, ends-with, answers-change, answers, Next, Fate, line-number, memory-after}
-use Rattle.history.specs.Facts.{Sees, Fetched, Read, Sum, helped}
+    takes-node, gives-back, Comes, goes-on, ends-with, answers-change, answers, Next, Entry, line-number, memory-after}
+pub use Rattle.history.specs.Statements.{CasLines, to-43, to-48, to-52, WholeLines, RefusedLines, no-node-left, counter-full}
+use Rattle.history.specs.Facts.{Sees, Fetched, Read, Sum}
 use Rattle.history.specs.Changes.{Allowed}
 use Rattle.history.specs.PhaseFacts.{PhaseFacts}
 
@@ -84,28 +85,8 @@ published-after (gives-back y) b = b
 
 -- ---- the lines of a whole operation, the newest first
 
--- A vCAS ends at 43, at 48 having changed the value, or at 52 having lost.
-pub data CasLines : List ℕ → Type 0 where
-  to-43 : {l : List ℕ} (tbd : Bool) → l ≡ 43 ∷ helped tbd (41 ∷ []) → CasLines l
-  to-48 : {l : List ℕ} (first second : Bool) → l ≡ 48 ∷ helped second (46 ∷ 45 ∷ 43 ∷ helped first (41 ∷ [])) → CasLines l
-  to-52 : {l : List ℕ} (first second : Bool) → l ≡ 52 ∷ helped second (51 ∷ 50 ∷ 46 ∷ 45 ∷ 43 ∷ helped first (41 ∷ [])) → CasLines l
-
--- The lines of a readSnapshot and of a total depend on the versions they met: they stand with their answers.
-abbrev pub WholeLines : Operation → List ℕ → Type 0
-WholeLines (register i v z) l = l ≡ []
-WholeLines (v-read i) l = (tbd : Bool) × (l ≡ 39 ∷ helped tbd (37 ∷ []))
-WholeLines (v-cas i a b) l = CasLines l
-WholeLines take-snapshot l = l ≡ 6 ∷ 5 ∷ []
-WholeLines (read-snapshot i h) l = Unit {0}
-WholeLines (total q h) l = Unit {0}
-
--- The lines of an operation that ended with number 11 or 12.
-pub data RefusedLines (number : ℕ) (op : Operation) (l : List ℕ) : Type 0 where
-  no-node-left : (i a b : ℕ) (tbd : Bool) → number ≡ 11 → op ≡ v-cas i a b → l ≡ 45 ∷ 43 ∷ helped tbd (41 ∷ []) → RefusedLines number op l
-  counter-full : number ≡ 12 → op ≡ take-snapshot → l ≡ 5 ∷ [] → RefusedLines number op l
-
 -- The lines of an operation that answered, or that ended with number 11 or 12.
-pub record FateLines (f : Fate) : Type 0 where
+pub record FateLines (f : Entry) : Type 0 where
   pub whole : f .done ≡ true → WholeLines (f .operation) (f .lines)
   pub refused : (f .refusal ≡ 0 → ⊥) → RefusedLines (f .refusal) (f .operation) (f .lines)
 

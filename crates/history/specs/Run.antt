@@ -1,6 +1,5 @@
 -- Every call keeps the invariant, so it holds after every run.
 use mathlib.Core.Path.{_≡_, refl, ap, sym, _∙_, subst}
-use mathlib.Core.Logic.{_≢_}
 use mathlib.Core.Bool.{true, false, not, true≢false}
 use mathlib.Core.List.{List, [], _∷_}
 use Prim.Native.Nat.{ℕ, suc, _≤_, _<_}
@@ -10,7 +9,7 @@ use Rattle.definitions.specs.Answers.{Refusal, accepted}
 use Rattle.definitions.specs.Calls.{Call}
 use Rattle.history.specs.Tools.{put, put-all, put-both, put-same, put-other, by-eq, by-test}
 use Rattle.history.specs.Machine.{Item, Memory, Limits, Operation, register, v-read, v-cas, take-snapshot, read-snapshot, total, Phase,
-    total-at, found, node-to-take, one-taken, nothing, memory-after, place-after, newborn, Place, unplaced, changes, Fate, Worker, idle, busy,
+    total-at, found, node-to-take, one-taken, nothing, memory-after, place-after, newborn, Place, unplaced, changes, Entry, Worker, idle, busy,
     Catalogue, tick, Move, unless, step-refusals, worker-refusals, register-refusals, stepped, stepping, first-phase, start-refusals, begun,
     starting, registered, registering, move, call, fresh, after-calls}
 use Rattle.history.specs.Facts.{empty, ItemFacts, MemoryFacts, LaterItem, Later}
@@ -101,27 +100,28 @@ module _ (s : Catalogue) (invariant : Invariant s) where
   begun-keeps w op y =
       record { kept = kept; workers = λ w'. workers y w';
         moved = λ h p. moved-later stay h p
-            (ap (λ (f : Fate). f .operation) (put-other (s .fate) (s .now) f _ (omega (arith, invariant .moved h p .begun))))
+            (ap (λ (f : Entry). f .operation) (put-other (s .fate) (s .now) f _ (omega (arith, invariant .moved h p .begun))))
             (put-other (s .place) (s .now) unplaced _ (omega (arith, invariant .moved h p .begun))) (invariant .moved h p) }
     where
-      f : Fate
+      f : Entry
       f = record { operation = op; worker = w; done = false; answer = 0; ended-at = 0; lines = []; refusal = 0 }
-      fate' : ℕ → Fate
+      fate' : ℕ → Entry
       fate' = put (s .fate) (s .now) f
       place' : ℕ → Place
       place' = put (s .place) (s .now) unplaced
       kept : Kept (suc (s .now)) (s .memory) fate' place'
-      kept = kept-in-table quietly (λ i j p. ap (λ (f : Fate). f .operation) (put-other (s .fate) (s .now) f _ (omega (arith, by-past i j p))))
+      kept = kept-in-table quietly (λ i j p. ap (λ (f : Entry). f .operation) (put-other (s .fate) (s .now) f _ (omega (arith, by-past i j p))))
           (λ i j p. put-other (s .place) (s .now) unplaced _ (omega (arith, by-past i j p)))
-        (λ q. put-all (λ (q : ℕ) (f : Fate). FateLines f) (s .fate) (s .now) f q
+        (λ q. put-all (λ (q : ℕ) (f : Entry). FateLines f) (s .fate) (s .now) f q
             (λ e. record { whole = λ d. absurd (true≢false (sym d)); refused = λ d. absurd (d refl) }) (λ e. invariant .kept .lines q))
-        (λ q. put-both (λ (q : ℕ) (f : Fate) (p : Place). PlaceRight (suc (s .now)) q (s .memory) f p) (s .fate) (s .place) (s .now) f unplaced q
+        (λ q. put-both (λ (q : ℕ) (f : Entry) (p : Place). PlaceRight (suc (s .now)) q (s .memory) f p) (s .fate) (s .place) (s .now) f unplaced q
             (λ e. refl) (λ e. quietly .places q))
       stays : (w' : ℕ) (x : Worker) → WorkerRight (s .now) (s .memory) (s .fate) (s .place) w' x → WorkerRight (suc (s .now)) (s .memory) fate' place' w' x
       stays w' idle k = tt
       stays w' (busy o l ph) k =
-          record { begun = omega (arith, k .begun); worker = ap (λ (f : Fate). f .worker) e ∙ k .worker; operation = ap (λ (f : Fate). f .operation) e
-              ∙ k .operation; unset = ap (λ (f : Fate). f .done) e ∙ k .unset; unpub = λ b. put-other (s .place) (s .now) unplaced o
+          record { begun = omega (arith, k .begun); worker = ap (λ (f : Entry). f .worker) e ∙ k .worker; operation = ap
+              (λ (f : Entry). f .operation) e
+              ∙ k .operation; unset = ap (λ (f : Entry). f .done) e ∙ k .unset; unpub = λ b. put-other (s .place) (s .now) unplaced o
               (omega (arith, k .begun)) ∙ k .unpub b; facts = phase-later o stay (k .begun) (invariant .kept .memory) l ph (k .facts) }
         where
           e : fate' o ≡ s .fate o
@@ -131,8 +131,8 @@ module _ (s : Catalogue) (invariant : Invariant s) where
       workers y w' =
           put-all (λ (w' : ℕ) (x : Worker). WorkerRight (suc (s .now)) (s .memory) fate' place' w' x) (s .worker) w
               (busy (s .now) [] (first-phase (s .memory) op)) w'
-            (λ z. record { begun = omega arith; worker = ap (λ (f : Fate). f .worker) new ∙ sym z; operation = ap (λ (f : Fate). f .operation) new
-                ∙ first-operation op y; unset = ap (λ (f : Fate). f .done) new; unpub = λ b. put-same (s .place) (s .now) unplaced (s .now) refl;
+            (λ z. record { begun = omega arith; worker = ap (λ (f : Entry). f .worker) new ∙ sym z; operation = ap (λ (f : Entry). f .operation) new
+                ∙ first-operation op y; unset = ap (λ (f : Entry). f .done) new; unpub = λ b. put-same (s .place) (s .now) unplaced (s .now) refl;
                 facts = first-facts op y })
             (λ z. stays w' (s .worker w') (invariant .workers w'))
         where
@@ -156,11 +156,11 @@ module _ (s : Catalogue) (invariant : Invariant s) where
   unfolding tick registered
   register-keeps v z y =
       record { kept =
-          record { lines = λ q. put-all (λ (q : ℕ) (f : Fate). FateLines f) (s .fate) (s .now) f q
+          record { lines = λ q. put-all (λ (q : ℕ) (f : Entry). FateLines f) (s .fate) (s .now) f q
           (λ e. record { whole = λ d. refl; refused = λ d. absurd (d refl) }) (λ e. invariant .kept .lines q); memory = memory;
           versions-right = λ i j. versions-right i j; places = λ q. places q }; workers = λ w. stays w (s .worker w) (invariant .workers w);
           moved = λ h p. moved-later L h p
-          (ap (λ (f : Fate). f .operation) (put-other (s .fate) (s .now) f _ (omega (arith, invariant .moved h p .begun))))
+          (ap (λ (f : Entry). f .operation) (put-other (s .fate) (s .now) f _ (omega (arith, invariant .moved h p .begun))))
           (put-other (s .place) (s .now) _ _ (omega (arith, invariant .moved h p .begun))) (invariant .moved h p) }
     where
       m : Memory
@@ -169,9 +169,9 @@ module _ (s : Catalogue) (invariant : Invariant s) where
       it = newborn (s .now) (m .camera .counter) v z y
       m' : Memory
       m' = record { limits = m .limits; pool = one-taken (m .pool); camera = m .camera; items = suc (m .items); item = put (m .item) (m .items) it }
-      f : Fate
+      f : Entry
       f = record { operation = register (m .items) v z; worker = 0; done = true; answer = m .items; ended-at = s .now; lines = []; refusal = 0 }
-      fate' : ℕ → Fate
+      fate' : ℕ → Entry
       fate' = put (s .fate) (s .now) f
       place' : ℕ → Place
       place' = put (s .place) (s .now) (changes (m .items) 0)
@@ -197,16 +197,16 @@ module _ (s : Catalogue) (invariant : Invariant s) where
       versions-right i j =
           put-all (λ (i : ℕ) (x : Item). j < x .versions → VersionRight fate' place' i x j) (m .item) (m .items) it i
             (λ e p. subst (λ (i : ℕ). VersionRight fate' place' i it j) (sym e) (subst (λ (j : ℕ). VersionRight fate' place' (m .items) it j) (omega arith)
-              (record { asked = ap (λ (f : Fate). f .operation) (put-same (s .fate) (s .now) f (s .now) refl);
+              (record { asked = ap (λ (f : Entry). f .operation) (put-same (s .fate) (s .now) f (s .now) refl);
                   valid = λ z. put-same (s .place) (s .now) (changes (m .items) 0) (s .now) refl; unset = λ z. absurd (omega arith) })))
             (λ e p. version-later (item-same {t = s .now} (invariant .kept .memory .item i .valid-published)) i j p (λ z. z)
-                (ap (λ (f : Fate). f .operation) (put-other (s .fate) (s .now) f _ (omega (arith, by-past i j p))))
+                (ap (λ (f : Entry). f .operation) (put-other (s .fate) (s .now) f _ (omega (arith, by-past i j p))))
                 (put-other (s .place) (s .now) (changes (m .items) 0) _ (omega (arith, by-past i j p))) (invariant .kept .versions-right i j p))
       new : put (m .item) (m .items) it (m .items) ≡ it
       new = put-same (m .item) (m .items) it (m .items) refl
       places : (q : ℕ) → PlaceRight (suc (s .now)) q m' (fate' q) (place' q)
       places q =
-          put-both (λ (q : ℕ) (f : Fate) (p : Place). PlaceRight (suc (s .now)) q m' f p) (s .fate) (s .place) (s .now) f (changes (m .items) 0) q
+          put-both (λ (q : ℕ) (f : Entry) (p : Place). PlaceRight (suc (s .now)) q m' f p) (s .fate) (s .place) (s .now) f (changes (m .items) 0) q
             (λ e. record { good = subst (λ (x : Item). 0 < x .valid) (sym new) (omega arith); mine = ap (λ (x : Item). x .author 0) new ∙ sym e;
                 till = λ d. subst (λ (x : Item). x .effect-at 0 ≤ s .now) (sym new) (omega arith); past = λ d. omega arith; is = λ d. refl;
                 register-done = λ d. refl; register-ended = λ d. sym e })
@@ -214,8 +214,9 @@ module _ (s : Catalogue) (invariant : Invariant s) where
       stays : (w' : ℕ) (x : Worker) → WorkerRight (s .now) (s .memory) (s .fate) (s .place) w' x → WorkerRight (suc (s .now)) m' fate' place' w' x
       stays w' idle k = tt
       stays w' (busy o l ph) k =
-          record { begun = omega (arith, k .begun); worker = ap (λ (f : Fate). f .worker) e ∙ k .worker; operation = ap (λ (f : Fate). f .operation) e
-              ∙ k .operation; unset = ap (λ (f : Fate). f .done) e ∙ k .unset; unpub = λ b. put-other (s .place) (s .now) (changes (m .items) 0) o
+          record { begun = omega (arith, k .begun); worker = ap (λ (f : Entry). f .worker) e ∙ k .worker; operation = ap
+              (λ (f : Entry). f .operation) e
+              ∙ k .operation; unset = ap (λ (f : Entry). f .done) e ∙ k .unset; unpub = λ b. put-other (s .place) (s .now) (changes (m .items) 0) o
               (omega (arith, k .begun)) ∙ k .unpub b; facts = phase-later o L (k .begun) (invariant .kept .memory) l ph (k .facts) }
         where
           e : fate' o ≡ s .fate o

@@ -1,228 +1,234 @@
--- What is promised of a run, told by its notes: the instants of document 01, the one order of demand 2, and the exact reads of demand 3.
+-- What is promised of a run, told by its notes: the instants of document 01, the one order of demand 2, the exact reads of demand 3, lines and steps.
 -- Letters: o, q and c are operations, named by the times of their starts; i is an item, v a value, h a handle; τ is an instant, and t, f, p, r and s
 -- are times of calls: f of a fetch of the head, p of a publication at 46, r of a line 21 and s of the line 22 after it.
 use mathlib.Core.Path.{_≡_}
-use mathlib.Core.Logic.{_⊎_}
+use mathlib.Core.Logic.{_≢_, _⊎_, _↔_}
 use mathlib.Core.Bool.{Bool, true, false, cond}
-use mathlib.Core.List.{List, [], _∷_, _++_}
+use mathlib.Core.List.{List, [], _∷_, _++_, map}
 use Prim.Native.Nat.{ℕ, suc, _+_, _≤_, _<_}
-use lib.ListN.{length, getD}
-use Rattle.history.specs.Definition1.{Operation, register, v-read, v-cas, take-snapshot, read-snapshot, total, Act, Legal}
-use Rattle.history.specs.Notes.{Deed, fetches, publishes, stamps, moves, nothing, Ending, Note, registered, stepped}
-use Rattle.history.specs.Ledger.{Fate, ledger, found-TBD, read-lines}
-use Rattle.history.specs.Effects.{Effect, birth, change, snapshot, effects, value-at, changed-between, count-if, total-at, born-before}
+use lib.ListN.{length, getD, replicate}
+use Rattle.history.specs.Definition1.{Operation, register, v-read, v-cas, take-snapshot, read-snapshot, total, total-of, Follows, Legal}
+use Rattle.history.specs.Notes.{Deed, fetches, publishes, stamps, moves, nothing, Ending, goes-on, answers, ends-with, Note, registered,
+    stepped, Fate, ledger, Effect, birth, change, snapshot, time, object-at, changes-between}
 
--- what operation o came to, and that it answered
-abbrev pub fate-of : List Note → ℕ → Fate
-fate-of run o = ledger run .fate o
-abbrev pub Finished : List Note → ℕ → Type 0
-Finished run o = fate-of run o .done ≡ true
+-- ---- lists and times
 
--- the line with which it ended
-abbrev pub last-line : Fate → ℕ
-last-line f = getD (f .lines) 0 0
+-- x is in a list
+abbrev pub In : {A : Type 0} → A → List A → Type 0
+In x [] = ⊥
+In x (y ∷ l) = (x ≡ y) ⊎ In x l
 
--- ---- events
-
--- note x was made after the notes past, so at the time length past
-abbrev pub Noted : Note → List Note → List Note → Type 0
-Noted x past [] = ⊥
-Noted x past (y ∷ l) = ((x ≡ y) × (past ≡ l)) ⊎ Noted x past l
-
--- operation o executed a line at time t, and did d
-pub record Executed (run : List Note) (o line : ℕ) (d : Deed) (t : ℕ) : Type 0 where
-  pub past : List Note
-  pub w : ℕ
-  pub e : Ending
-  pub noted : Noted (stepped w line d e) past run
-  pub its : ledger past .current w ≡ o
-  pub at : length past ≡ t
-
--- the first to publish a node of item i after f did so at p
-pub record FirstPublish (run : List Note) (i f p : ℕ) : Type 0 where
-  pub o : ℕ
-  pub v : ℕ
-  pub published : Executed run o 46 (publishes i v) p
-  pub after : f < p
-  pub first : (o' v' p' : ℕ) → Executed run o' 46 (publishes i v') p' → f < p' → p ≤ p'
-
--- the first line 22 to stamp a node of item i after p was at s, and line 21 of the same operation, its own step before that, at r
-pub record FirstStamp (run : List Note) (i p r s : ℕ) : Type 0 where
-  pub o : ℕ
-  pub v : ℕ
-  pub stored : Executed run o 22 (stamps i v) s
-  pub after : p < s
-  pub first : (o' v' s' : ℕ) → Executed run o' 22 (stamps i v') s' → p < s' → s ≤ s'
-  pub read : Executed run o 21 nothing r
-  pub before : r < s
-  pub own-next : (line : ℕ) (d : Deed) (t : ℕ) → Executed run o line d t → r < t → s ≤ t
-
--- ---- when things take effect
-
--- when the head was fetched, if its stamp was valid, else when it became valid
-pub data HeadInstant (run : List Note) (o i line τ : ℕ) : Type 0 where
-  at-fetch : Executed run o line (fetches i true) τ → HeadInstant run o i line τ
-  at-stamp : (f r : ℕ) → Executed run o line (fetches i false) f → FirstStamp run i f r τ → HeadInstant run o i line τ
-
--- at the line 21 whose line 22 stamped its node
-pub record ChangeInstant (run : List Note) (o i τ : ℕ) : Type 0 where
-  pub v : ℕ
-  pub p : ℕ
-  pub s : ℕ
-  pub published : Executed run o 46 (publishes i v) p
-  pub stamped : FirstStamp run i p τ s
-
--- operation o lost to the change of item i that was published at p: the first since its line 41
-pub record LostTo (run : List Note) (o i p : ℕ) : Type 0 where
-  pub valid : Bool
-  pub f : ℕ
-  pub fetched : Executed run o 41 (fetches i valid) f
-  pub published : FirstPublish run i f p
-
--- at the instant of the vCAS that first changed the head since its line 41
-pub record LossInstant (run : List Note) (o i τ : ℕ) : Type 0 where
-  pub p : ℕ
-  pub s : ℕ
-  pub lost : LostTo run o i p
-  pub stamped : FirstStamp run i p τ s
-
--- by the line at which a vCAS ends
-pub data CasInstant (run : List Note) (o i line τ : ℕ) : Type 0 where
-  ends-43 : line ≡ 43 → HeadInstant run o i 41 τ → CasInstant run o i line τ
-  ends-48 : line ≡ 48 → ChangeInstant run o i τ → CasInstant run o i line τ
-  ends-52 : line ≡ 52 → LossInstant run o i τ → CasInstant run o i line τ
-
-abbrev pub Instant : List Note → ℕ → Fate → Operation → ℕ → Type 0
-Instant run o f (register i v s) τ = τ ≡ o
-Instant run o f (v-read i) τ = HeadInstant run o i 37 τ
-Instant run o f (v-cas i old new) τ = CasInstant run o i (last-line f) τ
-Instant run o f take-snapshot τ = (q : ℕ) × Executed run q 6 (moves (f .answer)) τ
-Instant run o f (read-snapshot i h) τ = τ ≡ f .ended-at
-Instant run o f (total q h) τ = τ ≡ f .ended-at
-
--- ---- one order
-
-pub data In (o : ℕ) : List ℕ → Type 0 where
-  first : {q : ℕ} {l : List ℕ} → o ≡ q → In o (q ∷ l)
-  later : {q : ℕ} {l : List ℕ} → In o l → In o (q ∷ l)
-
-abbrev pub Once : List ℕ → Type 0
+-- nothing stands twice in it
+abbrev pub Once : {A : Type 0} → List A → Type 0
 Once [] = Unit {0}
-Once (o ∷ l) = (In o l → ⊥) × Once l
+Once (x ∷ l) = (In x l → ⊥) × Once l
 
 -- the newest first: times do not rise
-abbrev pub Falling : (ℕ → ℕ) → List ℕ → Type 0
+abbrev pub Falling : {A : Type 0} → (A → ℕ) → List A → Type 0
 Falling time [] = Unit {0}
-Falling time (o ∷ l) = ((q : ℕ) → In q l → time q ≤ time o) × Falling time l
+Falling {A} time (x ∷ l) = ((y : A) → In y l → time y ≤ time x) × Falling time l
 
-abbrev pub acts : (ℕ → Operation) → (ℕ → ℕ) → List ℕ → List Act
-acts operation answer [] = []
-acts operation answer (o ∷ l) = record { operation = operation o; answer = answer o } ∷ acts operation answer l
+-- t is after f, and P holds of no time between them
+abbrev pub Next : (ℕ → Type 0) → (f t : ℕ) → Type 0
+Next P f t = (f < t) × ((t' : ℕ) → P t' → f < t' → t ≤ t')
 
--- a vCAS that has not answered, and whose node has its stamp
-pub record Pending (run : List Note) (o τ : ℕ) : Type 0 where
-  pub unfinished : fate-of run o .done ≡ false
-  pub i : ℕ
-  pub old : ℕ
-  pub new : ℕ
-  pub asked : fate-of run o .operation ≡ v-cas i old new
-  pub changed : ChangeInstant run o i τ
+-- ---- the lines of an operation, the newest first
 
--- after its start and not after its answer; a register in its own call
-pub data Within (f : Fate) (o τ : ℕ) : Type 0 where
-  inside : o < τ → (f .done ≡ true → τ ≤ f .ended-at) → Within f o τ
-  in-call : (i v s : ℕ) → f .operation ≡ register i v s → τ ≡ o → f .ended-at ≡ o → Within f o τ
+-- Those of a help onto those before it: line 20 alone where it found a valid stamp, all three where it found TBD.
+abbrev pub helped : Bool → List ℕ → List ℕ
+helped false l = 20 ∷ l
+helped true l = 22 ∷ 21 ∷ 20 ∷ l
 
--- going back from the newest of the list to c, there are only operations that lost to the change published at p
-abbrev pub Behind : List Note → (c i p : ℕ) → List ℕ → Type 0
-Behind run c i p [] = ⊥
-Behind run c i p (q ∷ l) = (q ≡ c) ⊎ (LostTo run q i p × Behind run c i p l)
+-- Those of a whole read of a snapshot: line 34 passed so many versions, and answered at the next.
+abbrev pub read-lines : Bool → ℕ → List ℕ
+read-lines tbd passed = 34 ∷ (replicate passed 34 ++ helped tbd (32 ∷ []))
 
--- in the order, o comes immediately after c: between them are only others that lost to that same change
-abbrev pub RightAfter : List Note → (c i p o : ℕ) → List ℕ → Type 0
-RightAfter run c i p o [] = ⊥
-RightAfter run c i p o (q ∷ l) = ((q ≡ o) × Behind run c i p l) ⊎ RightAfter run c i p o l
+-- A vCAS ends at 43, after 3 or 5 steps; at 48 having changed the value, after 7 to 11; or at 52 having lost, after 9 to 13.
+pub data CasLines : List ℕ → Type 0 where
+  to-43 : {l : List ℕ} (tbd : Bool) → l ≡ 43 ∷ helped tbd (41 ∷ []) → CasLines l
+  to-48 : {l : List ℕ} (first second : Bool) → l ≡ 48 ∷ helped second (46 ∷ 45 ∷ 43 ∷ helped first (41 ∷ [])) → CasLines l
+  to-52 : {l : List ℕ} (first second : Bool) → l ≡ 52 ∷ helped second (51 ∷ 50 ∷ 46 ∷ 45 ∷ 43 ∷ helped first (41 ∷ [])) → CasLines l
 
--- a vCAS that ended at 52 comes immediately after the vCAS c that first changed the head since its line 41
-pub record Immediately (run : List Note) (o i : ℕ) (order : List ℕ) : Type 0 where
-  pub c : ℕ
-  pub v : ℕ
-  pub p : ℕ
-  pub lost : LostTo run o i p
-  pub changed : Executed run c 46 (publishes i v) p
-  pub after : RightAfter run c i p o order
+-- A vRead takes 3 or 5 steps, a takeSnapshot 2. The lines of a readSnapshot and of a total stand with their answers: ExactRead, ExactTotal.
+abbrev pub WholeLines : Operation → List ℕ → Type 0
+WholeLines (register i v s) l = l ≡ []
+WholeLines (v-read i) l = (tbd : Bool) × (l ≡ 39 ∷ helped tbd (37 ∷ []))
+WholeLines (v-cas i old new) l = CasLines l
+WholeLines take-snapshot l = l ≡ 6 ∷ 5 ∷ []
+WholeLines (read-snapshot i h) l = Unit {0}
+WholeLines (total q h) l = Unit {0}
 
--- Demand 2. The order lists operations, the newest first; each has its time and its answer.
-pub record OneOrder (run : List Note) : Type 0 where
-  pub order : List ℕ
-  pub time : ℕ → ℕ
-  pub answer : ℕ → ℕ
-  pub once : Once order
-  pub all : (o : ℕ) → o < length run → Finished run o → In o order
-  -- and so is every change that has taken effect, finished or not
-  pub effective : (o i τ : ℕ) → ChangeInstant run o i τ → In o order
-  pub only : (o : ℕ) → In o order → (Finished run o) ⊎ Pending run o (time o)
-  pub within : (o : ℕ) → In o order → Within (fate-of run o) o (time o)
-  pub falling : Falling time order
-  pub instants : (o : ℕ) → o < length run → Finished run o → Instant run o (fate-of run o) (fate-of run o .operation) (time o)
-  pub immediately : (o i old new : ℕ) → fate-of run o .operation ≡ v-cas i old new → Finished run o → last-line (fate-of run o) ≡ 52 →
-    Immediately run o i order
-  pub answered : (o : ℕ) → In o order → Finished run o → fate-of run o .answer ≡ answer o
-  pub legal : Legal (acts (λ o. fate-of run o .operation) answer order)
+-- an operation that ended with number 11 or 12
+pub data RefusedLines (number : ℕ) (op : Operation) (l : List ℕ) : Type 0 where
+  no-node-left : (i old new : ℕ) (tbd : Bool) → number ≡ 11 → op ≡ v-cas i old new → l ≡ 45 ∷ 43 ∷ helped tbd (41 ∷ []) → RefusedLines number op l
+  counter-full : number ≡ 12 → op ≡ take-snapshot → l ≡ 5 ∷ [] → RefusedLines number op l
 
--- ---- exact reads
+-- the most steps that an operation may take
+abbrev pub most-steps : Operation → ℕ
+most-steps (register i v s) = 0
+most-steps (v-read i) = 5
+most-steps (v-cas i old new) = 13
+most-steps take-snapshot = 2
+most-steps (read-snapshot i h) = 5121
+most-steps (total q h) = 5121
 
-abbrev pub Among : Effect → List Effect → Type 0
-Among x [] = ⊥
-Among x (y ∷ l) = (x ≡ y) ⊎ Among x l
+module _ (run : List Note) where
+  -- ---- events
 
--- the newest first
-abbrev pub Ordered : List Effect → Type 0
-Ordered [] = Unit {0}
-Ordered (x ∷ l) = ((y : Effect) → Among y l → y .time ≤ x .time) × Ordered l
+  -- what operation o came to, and that it answered x
+  abbrev pub fate-of : ℕ → Fate
+  fate-of o = ledger run .fate o
+  abbrev pub Finished : (o x : ℕ) → Type 0
+  Finished o x = fate-of o .ending ≡ answers x
 
--- what an effect is the effect of
-pub data TellsOf (run : List Note) (x : Effect) : Type 0 where
-  a-birth : (i v s : ℕ) (past : List Note) → x ≡ record { time = length past; what = birth i v s } → Noted (registered i v s) past run → TellsOf run x
-  a-change : (i v p o s : ℕ) → x .what ≡ change i v p → Executed run o 46 (publishes i v) p → FirstStamp run i p (x .time) s → TellsOf run x
-  a-snapshot : (h o : ℕ) → x .what ≡ snapshot h → Executed run o 6 (moves h) (x .time) → TellsOf run x
+  -- operation o executed a line at time t, and did d
+  pub record Executed (o line : ℕ) (d : Deed) (t : ℕ) : Type 0 where
+    pub past : List Note
+    pub w : ℕ
+    pub e : Ending
+    pub noted : Follows (stepped w line d e) past run
+    pub its : ledger past .current w ≡ o
+    pub at : length past ≡ t
 
--- The list of effects: in time order, one at a time, and each is told by the run.
-pub record EffectsTold (run : List Note) : Type 0 where
-  pub ordered : Ordered (effects run)
-  pub apart : (x y : Effect) → Among x (effects run) → Among y (effects run) → x .time ≡ y .time → x ≡ y
-  pub tells : (x : Effect) → Among x (effects run) → TellsOf run x
+  -- a node of item i was published at t, or stamped; operation o executed some line
+  abbrev pub Published : (i t : ℕ) → Type 0
+  Published i t = (c : ℕ) × (v : ℕ) × Executed c 46 (publishes i v) t
+  abbrev pub Stamped : (i t : ℕ) → Type 0
+  Stamped i t = (q : ℕ) × (v : ℕ) × Executed q 22 (stamps i v) t
+  abbrev pub Steps : (o t : ℕ) → Type 0
+  Steps o t = (line : ℕ) × (d : Deed) × Executed o line d t
 
--- Demand 3. left: when the counter left h; f: when its line 32 was executed. It answers the value then, and its steps are k + 5 where line 20
--- found TBD (line 21 is among the lines executed), else k + 3: k counts the changes with effect after left whose line 46 was before f.
-pub record ExactRead (run : List Note) (o i h : ℕ) : Type 0 where
-  pub left : ℕ
-  pub taken : Among (record { time = left; what = snapshot h }) (effects run)
-  pub answer : fate-of run o .answer ≡ value-at (effects run) i left
-  pub f : ℕ
-  pub valid : Bool
-  pub fetched : Executed run o 32 (fetches i valid) f
-  pub steps :
-    length (fate-of run o .lines) ≡ count-if (changed-between i left f) (effects run) + cond (found-TBD (fate-of run o .lines)) 5 3
+  -- the first line 22 to stamp a node of item i after p was at s, and line 21 of the same operation, its own step before that, at r
+  abbrev pub FirstStamp : (i p r s : ℕ) → Type 0
+  FirstStamp i p r s = (q : ℕ) × (v : ℕ) × Executed q 22 (stamps i v) s × Next (Stamped i) p s × Executed q 21 nothing r × Next (Steps q) r s
 
--- The lines of a total, item by item in their order, each with its own line 32, executed at f, after that of the item before, at g: one line for
--- an item born after the counter left the handle, else those of a read.
-pub data TotalLines (run : List Note) (left o : ℕ) : (items : ℕ) → List ℕ → (f : ℕ) → Type 0 where
-  no-item : TotalLines run left o 0 [] 0
-  born-later : {i g : ℕ} {l : List ℕ} (f t v s : ℕ) → Executed run o 32 nothing f → g < f → Among (record { time = t; what = birth i v s }) (effects run) →
-    left < t → TotalLines run left o i l g → TotalLines run left o (suc i) (32 ∷ l) f
-  read : {i g : ℕ} {l : List ℕ} (f : ℕ) (tbd : Bool) → Executed run o 32 nothing f → g < f → TotalLines run left o i l g →
-    TotalLines run left o (suc i) (read-lines tbd (count-if (changed-between i left f) (effects run)) ++ l) f
+  -- ---- when things take effect
 
--- A total answers the sum over all items born when the counter left h whose project then was q; its steps are those of its items,
--- which are the ones born before its start, and the closing one.
-pub record ExactTotal (run : List Note) (o q h : ℕ) : Type 0 where
-  pub left : ℕ
-  pub taken : Among (record { time = left; what = snapshot h }) (effects run)
-  pub answer : fate-of run o .answer ≡ total-at (effects run) q left
-  pub items : ℕ
-  pub noted : items ≡ born-before o (effects run)
-  pub lines : List ℕ
-  pub last : ℕ
-  pub each : TotalLines run left o items lines last
-  pub closing : fate-of run o .lines ≡ 0 ∷ lines
+  -- when the head was fetched, if its stamp was valid, else when it became valid
+  abbrev pub HeadInstant : (o i line τ : ℕ) → Type 0
+  HeadInstant o i line τ = Executed o line (fetches i true) τ ⊎ ((f : ℕ) × (r : ℕ) × Executed o line (fetches i false) f × FirstStamp i f r τ)
+
+  -- at the line 21 whose line 22 stamped its node
+  abbrev pub ChangeInstant : (o i τ : ℕ) → Type 0
+  ChangeInstant o i τ = (v : ℕ) × (p : ℕ) × (s : ℕ) × Executed o 46 (publishes i v) p × FirstStamp i p τ s
+
+  -- operation o lost to the change of item i that was published at p: the first since its line 41
+  abbrev pub LostTo : (o i p : ℕ) → Type 0
+  LostTo o i p = (valid : Bool) × (f : ℕ) × Executed o 41 (fetches i valid) f × Published i p × Next (Published i) f p
+
+  -- at the instant of the vCAS that first changed the head since its line 41
+  abbrev pub LossInstant : (o i τ : ℕ) → Type 0
+  LossInstant o i τ = (p : ℕ) × (s : ℕ) × LostTo o i p × FirstStamp i p τ s
+
+  -- the line with which an operation ended
+  abbrev pub last-line : ℕ → ℕ
+  last-line o = getD (fate-of o .lines) 0 0
+
+  -- a vCAS by that line: 43, 48 or 52
+  abbrev pub CasInstant : (o i line τ : ℕ) → Type 0
+  CasInstant o i line τ = ((line ≡ 43) × HeadInstant o i 41 τ) ⊎ (((line ≡ 48) × ChangeInstant o i τ) ⊎ ((line ≡ 52) × LossInstant o i τ))
+
+  -- the instant of an operation that answered x
+  abbrev pub Instant : (o x : ℕ) → Operation → (τ : ℕ) → Type 0
+  Instant o x (register i v s) τ = τ ≡ o
+  Instant o x (v-read i) τ = HeadInstant o i 37 τ
+  Instant o x (v-cas i old new) τ = CasInstant o i (last-line o) τ
+  Instant o x take-snapshot τ = (q : ℕ) × Executed q 6 (moves x) τ
+  Instant o x (read-snapshot i h) τ = τ ≡ fate-of o .at
+  Instant o x (total q h) τ = τ ≡ fate-of o .at
+
+  -- ---- one order
+
+  -- a vCAS that has not answered, and whose node has its stamp
+  abbrev pub Pending : (o τ : ℕ) → Type 0
+  Pending o τ = ((x : ℕ) → Finished o x → ⊥) × (i : ℕ) × (old : ℕ) × (new : ℕ) × (fate-of o .operation ≡ v-cas i old new) × ChangeInstant o i τ
+
+  -- after its start and not after its answer; a register in its own call
+  abbrev pub Within : (o τ : ℕ) → Type 0
+  Within o τ = ((o < τ) × ((x : ℕ) → Finished o x → τ ≤ fate-of o .at))
+      ⊎ ((i : ℕ) × (v : ℕ) × (s : ℕ) × (fate-of o .operation ≡ register i v s) × (τ ≡ o) × (fate-of o .at ≡ o))
+
+  -- A vCAS that ended at 52 comes immediately after the vCAS c that first changed the head since its line 41: between them in the order are only
+  -- others that lost to that same change.
+  abbrev pub Immediately : (o i : ℕ) → List ℕ → Type 0
+  Immediately o i order =
+      (c : ℕ) × (v : ℕ) × (p : ℕ) × LostTo o i p × Executed c 46 (publishes i v) p × (newer : List ℕ) × (between : List ℕ) × (older : List ℕ)
+        × (order ≡ newer ++ (o ∷ (between ++ (c ∷ older)))) × ((q : ℕ) → In q between → LostTo q i p)
+
+  -- Demand 2. The order lists operations, the newest first; each has its time and its answer.
+  pub record OneOrder : Type 0 where
+    pub order : List ℕ
+    pub time : ℕ → ℕ
+    pub answer : ℕ → ℕ
+    -- in it are, each once, the operations that answered and the changes that have taken effect, and no other
+    pub once : Once order
+    pub all : (o x : ℕ) → Finished o x → In o order
+    pub effective : (o i τ : ℕ) → ChangeInstant o i τ → In o order
+    pub only : (o : ℕ) → In o order → Finished o (answer o) ⊎ Pending o (time o)
+    -- each within its call, in time order, at its instant
+    pub within : (o : ℕ) → In o order → Within o (time o)
+    pub falling : Falling time order
+    pub instants : (o x : ℕ) → Finished o x → Instant o x (fate-of o .operation) (time o)
+    pub immediately : (o x i old new : ℕ) → fate-of o .operation ≡ v-cas i old new → Finished o x → last-line o ≡ 52 → Immediately o i order
+    -- and each answer is right by Definition 1
+    pub legal : Legal (map (λ o. record { operation = fate-of o .operation; answer = answer o }) order)
+
+  -- ---- exact reads
+
+  -- what an effect is the effect of
+  abbrev pub TellsOf : Effect → Type 0
+  TellsOf (birth t i v s) = (past : List Note) × Follows (registered i v s) past run × (length past ≡ t)
+  TellsOf (change t i v p) = (o : ℕ) × (s : ℕ) × Executed o 46 (publishes i v) p × FirstStamp i p t s
+  TellsOf (snapshot t h) = (o : ℕ) × Executed o 6 (moves h) t
+
+  module _ (effects : List Effect) where
+    -- Demand 3. left: when the counter left h; f: when its line 32 was executed. Its answer x is the value then, and its steps are k + 5 where
+    -- line 20 found TBD, else k + 3: k counts the changes with effect after left whose line 46 was before f.
+    pub record ExactRead (o i h x : ℕ) : Type 0 where
+      pub left : ℕ
+      pub taken : In (snapshot left h) effects
+      pub answer : x ≡ object-at left effects .value i
+      pub f : ℕ
+      pub fetched : (valid : Bool) × Executed o 32 (fetches i valid) f
+      pub k : ℕ
+      pub counted : k ≡ changes-between i left f effects
+      pub tbd : Bool
+      pub lines : fate-of o .lines ≡ read-lines tbd k
+      pub steps : length (fate-of o .lines) ≡ k + cond tbd 5 3
+
+    -- The lines of a total, item by item in their order, each with its own line 32, executed at f, after that of the item before, at g: one line
+    -- for an item born after the counter left the handle, else those of a read.
+    pub data TotalLines (left o : ℕ) : (items : ℕ) → List ℕ → (f : ℕ) → Type 0 where
+      no-item : TotalLines left o 0 [] 0
+      born-later : {i g : ℕ} {l : List ℕ} (f t v s : ℕ) → Executed o 32 nothing f → g < f → In (birth t i v s) effects → left < t →
+        TotalLines left o i l g → TotalLines left o (suc i) (32 ∷ l) f
+      read : {i g : ℕ} {l : List ℕ} (f : ℕ) (tbd : Bool) → Executed o 32 nothing f → g < f →
+        TotalLines left o i l g → TotalLines left o (suc i) (read-lines tbd (changes-between i left f effects) ++ l) f
+
+    -- A total's answer x is the sum over all items born when the counter left h whose project then was q; its steps are those of its items,
+    -- which are the ones born before its start, and the closing one.
+    pub record ExactTotal (o q h x : ℕ) : Type 0 where
+      pub left : ℕ
+      pub taken : In (snapshot left h) effects
+      pub answer : x ≡ total-of q (object-at left effects)
+      pub lines : (l : List ℕ) × (last : ℕ) × TotalLines left o (object-at o effects .items) l last × (fate-of o .lines ≡ 0 ∷ l)
+
+    -- ---- all that is promised of the notes of a run
+
+    pub record Promises : Type 0 where
+      -- demand 2: there is one order
+      pub one-order : OneOrder
+      -- the list of effects: in time order, no two at one time, and exactly those that the run tells of
+      pub ordered : Falling time effects
+      pub apart : Once (map time effects)
+      pub exactly : (x : Effect) → In x effects ↔ TellsOf x
+      -- demand 3: reads are exact
+      pub reads : (o i h x : ℕ) → fate-of o .operation ≡ read-snapshot i h → Finished o x → ExactRead o i h x
+      -- so are totals, which never take more than 5,121 steps
+      pub totals : (o q h x : ℕ) → fate-of o .operation ≡ total q h → Finished o x → ExactTotal o q h x
+      pub total-steps : (o q h x : ℕ) → fate-of o .operation ≡ total q h → Finished o x → length (fate-of o .lines) ≤ 5121
+      -- the lines of all others, and of those that ended with number 11 or 12
+      pub whole-lines : (o x : ℕ) → Finished o x → WholeLines (fate-of o .operation) (fate-of o .lines)
+      pub refused-lines : (o n : ℕ) → n ≢ 0 → fate-of o .ending ≡ ends-with n → RefusedLines n (fate-of o .operation) (fate-of o .lines)
+      -- an operation that goes on has not taken the most steps that it may take: one that is stepped so often has ended
+      pub progress : (o : ℕ) → fate-of o .ending ≡ goes-on → length (fate-of o .lines) < most-steps (fate-of o .operation)

@@ -7,27 +7,28 @@ use Prim.Native.Nat.{ℕ, suc, _<_}
 use native.Mathlib.Omega.{arith}
 use Rattle.history.specs.Tools.{put, put-all, put-same, put-other, Split, split}
 use Rattle.history.specs.Machine.{Memory, take-snapshot, Phase, line-number, Effect, nothing, counts, publishes, stamps, takes-node,
-    gives-back, Comes, goes-on, ends-with, answers-change, answers, line, memory-after, place-after, Place, unplaced, observes, Fate, Worker, idle,
+    gives-back, Comes, goes-on, ends-with, answers-change, answers, line, memory-after, place-after, Place, unplaced, observes, Entry, Worker, idle,
     busy, Catalogue, ended, turned-away, settle, affect, tick, stepped}
 use Rattle.history.specs.Facts.{MemoryFacts, Later}
 use Rattle.history.specs.Changes.{Allowed, effect-later}
 use Rattle.history.specs.PhaseFacts.{phase-later}
 use Rattle.history.specs.RightAnswers.{phase-operation, has-published, published-after, ComesRight, Moving, LineRight}
 use Rattle.history.specs.EachLine.{every-line}
-use Rattle.history.specs.Places.{Kept, InOperation, WorkerRight, Invariant, not-none, kept-by-effect, kept-changed, kept-refused, what-refused,
-    kept-answered, Moved, moved-later, not-observing, obs-not-none, what-same}
+use Rattle.history.specs.Places.{Kept, InOperation, WorkerRight, Invariant, not-none, kept-by-effect, kept-changed, kept-refused,
+    what-refused, kept-answered, Moved, moved-later, not-observing, obs-not-none, what-same}
 
 -- a worker that does not step, where the operation o of another is all that changes in the table
-worker-keeps : (o w w' : ℕ) {t : ℕ} {m m' : Memory} (fate fate' : ℕ → Fate) (place place' : ℕ → Place) (x : Worker) → Later t m m' → MemoryFacts t m →
+worker-keeps : (o w w' : ℕ) {t : ℕ} {m m' : Memory} (fate fate' : ℕ → Entry) (place place' : ℕ → Place) (x : Worker) → Later t m m' → MemoryFacts t m
+    →
     (fate o .worker ≡ w' → ⊥) → ((q : ℕ) → q < t → q ≢ o → fate' q ≡ fate q) → ((q : ℕ) → q < t → q ≢ o → place q ≡ unplaced → place' q ≡ unplaced) →
     WorkerRight t m fate place w' x → WorkerRight (suc t) m' fate' place' w' x
 worker-keeps o w w' fate fate' place place' idle L known d ho hp k = tt
 worker-keeps o w w' fate fate' place place' (busy q l ph) L known d ho hp k =
     record {
       begun = omega (arith, k .begun);
-      worker = ap (λ (f : Fate). f .worker) e ∙ k .worker;
-      operation = ap (λ (f : Fate). f .operation) e ∙ k .operation;
-      unset = ap (λ (f : Fate). f .done) e ∙ k .unset;
+      worker = ap (λ (f : Entry). f .worker) e ∙ k .worker;
+      operation = ap (λ (f : Entry). f .operation) e ∙ k .operation;
+      unset = ap (λ (f : Entry). f .done) e ∙ k .unset;
       unpub = λ b. hp q (k .begun) other (k .unpub b);
       facts = phase-later q L (k .begun) known l ph (k .facts) }
   where
@@ -114,7 +115,7 @@ module _ (s : Catalogue) (invariant : Invariant s) (w o : ℕ) (l : List ℕ) (p
   counter-refused (gives-back z) y x = refl
   counter-refused (stamps i j c r) y x = refl
 
-  moved-old : (e : Effect) → Allowed (s .now) o (phase-operation ph) (has-published ph) (s .memory) e → (fate' : ℕ → Fate) →
+  moved-old : (e : Effect) → Allowed (s .now) o (phase-operation ph) (has-published ph) (s .memory) e → (fate' : ℕ → Entry) →
       ((q : ℕ) → fate' q .operation ≡ s .fate q .operation) → (place' : ℕ → Place) →
       ((q τ j x : ℕ) → s .place q ≡ observes τ j x → place' q ≡ place-after (s .now) o e (s .memory) (s .place) q) → (h : ℕ) →
       h < s .memory .camera .counter → Moved (memory-after (s .now) o e (s .memory)) fate' place' (suc (s .now)) h
@@ -122,7 +123,8 @@ module _ (s : Catalogue) (invariant : Invariant s) (w o : ℕ) (l : List ℕ) (p
       (hp _ _ _ _ (invariant .moved h p .at) ∙ observer-keeps e d (invariant .moved h p .at)) (invariant .moved h p)
 
   moved-answers : (e : Effect) → Allowed (s .now) o (phase-operation ph) (has-published ph) (s .memory) e → (x τ j : ℕ) →
-      Moving (s .now) (s .memory) (phase-operation ph) e (answers x τ j) → (fate' : ℕ → Fate) → ((q : ℕ) → fate' q .operation ≡ s .fate q .operation) →
+      Moving (s .now) (s .memory) (phase-operation ph) e (answers x τ j) → (fate' : ℕ → Entry) →
+          ((q : ℕ) → fate' q .operation ≡ s .fate q .operation) →
       (place' : ℕ → Place) → ((q τ j x : ℕ) → s .place q ≡ observes τ j x → place' q ≡ place-after (s .now) o e (s .memory) (s .place) q) →
       place' o ≡ observes τ j x → (h : ℕ) → h < memory-after (s .now) o e (s .memory) .camera .counter →
       Moved (memory-after (s .now) o e (s .memory)) fate' place' (suc (s .now)) h

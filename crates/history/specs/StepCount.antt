@@ -1,15 +1,14 @@
 -- The steps of an operation are the lines that it executed: exact numbers for each way to end, and never more than 5,120 before a step.
 use mathlib.Core.Path.{_≡_, refl, ap, sym, _∙_, subst}
 use mathlib.Core.Logic.{_⊎_, inl, inr}
-use mathlib.Core.Bool.{Bool, true, false, cond}
+use mathlib.Core.Bool.{Bool, true, false, cond, _||_}
 use mathlib.Core.List.{List, [], _∷_, _++_}
 use Prim.Native.Nat.{ℕ, zero, suc, _+_, _*_, _≤_, _<_}
 use native.Mathlib.Omega.{arith}
+use lib.Dec.{eqb}
 use lib.ListN.{length, replicate, getD}
 use Rattle.definitions.specs.Calls.{Call}
 use Rattle.history.specs.Tools.{Split, split}
-use Rattle.history.specs.Ledger.{found-TBD}
-use Rattle.history.specs.Counts.{help-steps, CasSteps, ends-43, ends-48, ends-52}
 use Rattle.history.specs.Machine.{Memory, Limits, Operation, v-read, Then, then-39, then-43, then-48, then-52, then-34, then-total-34, Phase,
     line-37, line-39, line-41, line-43, line-45, line-46, line-48, line-50, line-51, line-52, line-5, line-6, line-32, line-34, total-32, total-34,
     closing, line-20, line-21, line-22, Worker, busy, Catalogue, after-calls}
@@ -19,6 +18,22 @@ use Rattle.history.specs.RightAnswers.{CasLines, to-43, to-48, to-52, Wh
 use Rattle.history.specs.Places.{Invariant, WorkerRight}
 use Rattle.history.specs.NodeCount.{sum-to, sum-rises, Tally, tally, limits-kept}
 use Rattle.history.specs.Run.{run-right}
+
+-- line 20 found TBD: line 21 is among the lines executed
+abbrev pub found-TBD : List ℕ → Bool
+found-TBD [] = false
+found-TBD (n ∷ l) = eqb n 21 || found-TBD l
+
+-- a help takes one step where line 20 found a valid stamp, and three where it found TBD
+abbrev pub help-steps : Bool → ℕ
+help-steps false = 1
+help-steps true = 3
+
+-- A vCAS takes the steps of its one or two helps, and 2 more where it ends at 43, 5 at 48, 7 at 52: so at most 13.
+pub data CasSteps (l : List ℕ) : Type 0 where
+  ends-43 : (tbd : Bool) → getD l 0 0 ≡ 43 → length l ≡ help-steps tbd + 2 → CasSteps l
+  ends-48 : (first second : Bool) → getD l 0 0 ≡ 48 → length l ≡ help-steps first + help-steps second + 5 → CasSteps l
+  ends-52 : (first second : Bool) → getD l 0 0 ≡ 52 → length l ≡ help-steps first + help-steps second + 7 → CasSteps l
 
 -- ---- lengths
 
@@ -43,15 +58,7 @@ pub length-read : (tbd : Bool) (k : ℕ) → length (read-lines tbd k) ≡ k + c
 length-read true k = omega (arith, length-passed k (helped true (32 ∷ [])))
 length-read false k = omega (arith, length-passed k (helped false (32 ∷ [])))
 
-passed-TBD : (n : ℕ) (l : List ℕ) → found-TBD (replicate n 34 ++ l) ≡ found-TBD l
-passed-TBD zero l = refl
-passed-TBD (suc n) l = passed-TBD n l
-
-pub read-TBD : (tbd : Bool) (k : ℕ) → found-TBD (read-lines tbd k) ≡ tbd
-read-TBD true k = passed-TBD k (helped true (32 ∷ []))
-read-TBD false k = passed-TBD k (helped false (32 ∷ []))
-
--- ---- exact numbers of steps
+-- ---- exact numbers of steps, as the lines of each way to end come to them
 
 -- a vRead takes 5 steps exactly when its line 20 found TBD, and else 3
 pub v-read-steps : (i : ℕ) (l : List ℕ) → WholeLines (v-read i) l → length l ≡ cond (found-TBD l) 5 3

@@ -8,12 +8,11 @@ use lib.ListN.{length}
 use Rattle.definitions.specs.declared.Answer.{Answer}
 use Rattle.definitions.specs.Calls.{Call}
 use Rattle.history.specs.Tools.{by-test}
-use Rattle.history.specs.Notes.{Deed, Ending, Note, step-note}
+use Rattle.history.specs.Notes.{Deed, Ending, Note, step-note, ledger}
 use Rattle.history.specs.Notes as Notes
-use Rattle.history.specs.Ledger.{ledger}
 use Rattle.history.specs.NoteParts.{note-tag, note-line}
-use Rattle.history.specs.Machine.{Limits, line-number, Comes, goes-on, ends-with, answers-change, answers, line, Worker, idle, busy, Catalogue,
-    Move, refused, no-worker, is-idle, step-answer, stepped, stepping, move, reply, after-calls}
+use Rattle.history.specs.Machine.{Limits, line-number, Comes, goes-on, ends-with, answers-change, answers, line, Worker, idle, busy,
+    Catalogue, Move, refused, no-worker, is-idle, step-answer, stepped, stepping, move, reply, after-calls}
 use Rattle.history.specs.MachineNotes.{phase-deed, worker-line, worker-deed, machine-note, machine-notes}
 use Rattle.history.specs.LedgerRight.{InLedger, Agrees, agrees}
 
@@ -39,25 +38,27 @@ module _ (s : Catalogue) (run : List Note) (A : Agrees s run) (w : ℕ) where
   answer-steps n (answers x τ j) = refl
 
   told-steps : (k : ℕ) (d : Deed) (e : Ending) → step-note w (worker-line (s .worker w)) (worker-deed (s .memory) (s .worker w))
-      (stepping s w .answer) ≡ Notes.stepped w k d e → stepping s w .answer .steps ≡ length (k ∷ ledger run .lines w)
+      (stepping s w .answer) ≡ Notes.stepped w k d e → stepping s w .answer .steps ≡ length (k ∷ ledger run .fate (ledger run .current w) .lines)
   unfolding stepping
   told-steps k d e =
       by-test (λ (y : Move). step-note w (worker-line (s .worker w)) (worker-deed (s .memory) (s .worker w)) (y .answer) ≡ Notes.stepped w k d e →
-          y .answer .steps ≡ length (k ∷ ledger run .lines w)) (no-worker s w)
+          y .answer .steps ≡ length (k ∷ ledger run .fate (ledger run .current w) .lines)) (no-worker s w)
         (λ t x. let z : _≡_ {A = ℕ} 0 3 = ap note-tag x in absurd (omega arith))
         (λ t. at (s .worker w) (A .worker w))
     where
       at : (x : Worker) → InLedger (ledger run) w x → step-note w (worker-line x) (worker-deed (s .memory) x)
           (cond (is-idle x) (refused s 5) (stepped s w x) .answer) ≡ Notes.stepped w k d e →
-          cond (is-idle x) (refused s 5) (stepped s w x) .answer .steps ≡ length (k ∷ ledger run .lines w)
+          cond (is-idle x) (refused s 5) (stepped s w x) .answer .steps ≡ length (k ∷ ledger run .fate (ledger run .current w) .lines)
       at idle i x = let z : _≡_ {A = ℕ} 0 3 = ap note-tag x in absurd (omega arith)
       at (busy o l ph) i x = unfold stepped in
           (answer-steps (line-number ph ∷ l) (line (s .now) (s .memory) ph .comes)
             ∙ ap₂ (λ (k : ℕ) (l : List ℕ). length (k ∷ l))
-                (step-line w (line-number ph) (phase-deed (s .memory) ph) (stepped s w (busy o l ph) .answer) k d e x) (sym (i .1)))
+                (step-line w (line-number ph) (phase-deed (s .memory) ph) (stepped s w (busy o l ph) .answer) k d e x)
+                  (sym (ap (λ (o : ℕ). ledger run .fate o .lines) (i .0) ∙ i .1)))
 
 pub steps-told : (limits : Limits) (cs : List Call) (w k : ℕ) (d : Deed) (e : Ending) →
     machine-note (after-calls limits cs) (Call.step w) ≡ Notes.stepped w k d e →
-  reply (after-calls limits cs) (Call.step w) .steps ≡ length (k ∷ ledger (machine-notes limits cs) .lines w)
+  reply (after-calls limits cs) (Call.step w) .steps ≡ length
+      (k ∷ ledger (machine-notes limits cs) .fate (ledger (machine-notes limits cs) .current w) .lines)
 unfolding machine-note reply move
 steps-told limits cs w k d e x = told-steps (after-calls limits cs) (machine-notes limits cs) (agrees limits cs) w k d e x

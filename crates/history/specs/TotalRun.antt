@@ -1,6 +1,6 @@
 -- The lines of a total, item by item, with the step of each line 32: each line, and the run.
 use mathlib.Core.Path.{_≡_, refl, ap, sym, _∙_, subst}
-use mathlib.Core.Logic.{_≢_, inl}
+use mathlib.Core.Logic.{inl}
 use mathlib.Core.Bool.{Bool, true, false, cond, true≢false}
 use mathlib.Core.List.{List, [], _∷_, _++_}
 use Prim.Native.Nat.{ℕ, suc, _+_, _≤_, _<_}
@@ -9,15 +9,14 @@ use lib.Dec.{eqb}
 use lib.ListN.{length}
 use Rattle.definitions.specs.Calls.{Call}
 use Rattle.history.specs.Tools.{put-all, by-eq, by-lt, by-le}
-use Rattle.history.specs.Notes.{Note}
+use Rattle.history.specs.Notes.{Note, ledger}
 use Rattle.history.specs.Notes as Notes
-use Rattle.history.specs.Ledger.{Fate, ended, turned-away, ledger, helped}
-use Rattle.history.specs.Statements.{Executed}
-use Rattle.history.specs.Machine.{Memory, Limits, found, node-to-take, Found, no-node, node, on-45, Operation, register, v-read, v-cas,
-    take-snapshot, read-snapshot, total, Then, then-39, then-43, then-48, then-52, then-34, then-total-34, Phase, line-37, line-39, line-41, line-43,
-    line-45, line-46, line-48, line-50, line-51, line-52, line-5, line-6, line-32, line-34, total-32, total-34, closing, line-20, line-21, line-22,
-    after, total-at, helped-item, line-number, Comes, goes-on, ends-with, answers-change, answers, Next, only, line, memory-after, Worker, idle,
-    busy, Catalogue, settle, affect, tick, first-phase, begun, registered, call, fresh, after-calls}
+use Rattle.history.specs.Statements.{helped, Executed}
+use Rattle.history.specs.Machine.{Entry, ended, turned-away, Memory, Limits, found, node-to-take, Found, no-node, node, on-45, Operation,
+    register, v-read, v-cas, take-snapshot, read-snapshot, total, Then, then-39, then-43, then-48, then-52, then-34, then-total-34, Phase, line-37,
+    line-39, line-41, line-43, line-45, line-46, line-48, line-50, line-51, line-52, line-5, line-6, line-32, line-34, total-32, total-34, closing,
+    line-20, line-21, line-22, after, total-at, helped-item, line-number, Comes, goes-on, ends-with, answers-change, answers, Next, only, line,
+    memory-after, Worker, idle, busy, Catalogue, settle, affect, tick, first-phase, begun, registered, call, fresh, after-calls}
 use Rattle.history.specs.Machine as Machine
 use Rattle.history.specs.Facts.{MemoryFacts, Later}
 use Rattle.history.specs.Changes.{Allowed, effect-later}
@@ -200,7 +199,7 @@ module _ (s : Catalogue) (invariant : Invariant s) (run : List Note) (agreed : A
   after-register v z y =
       record {
         workers = λ w. keep x (registered s v z y .memory) (registered-later s invariant v z y) w (s .worker w) refl;
-        ends = λ q. put-all (λ (q : ℕ) (f : Fate). f .done ≡ true → EndTotal (registered s v z y .memory) (x ∷ run) q (suc (f .ended-at)) (f .lines)
+        ends = λ q. put-all (λ (q : ℕ) (f : Entry). f .done ≡ true → EndTotal (registered s v z y .memory) (x ∷ run) q (suc (f .ended-at)) (f .lines)
             (f .operation)) (s .fate) (s .now) _ q
           (λ e d. tt) (λ e d. old-end x (registered s v z y .memory) (registered-later s invariant v z y) q d) }
     where
@@ -224,7 +223,7 @@ module _ (s : Catalogue) (invariant : Invariant s) (run : List Note) (agreed : A
       record {
         workers = λ w'. put-all (λ (w' : ℕ) (y : Worker). WorkerTotal (s .memory) (Notes.started w op ∷ run) (suc (s .now)) y) (s .worker) w _ w'
           (λ e. first-total (Notes.started w op) (s .now) (suc (s .now)) op) (λ e. keep (Notes.started w op) (s .memory) unmoved w' (s .worker w') refl);
-        ends = λ q. put-all (λ (q : ℕ) (f : Fate). f .done ≡ true → EndTotal (s .memory) (Notes.started w op ∷ run) q (suc (f .ended-at)) (f .lines)
+        ends = λ q. put-all (λ (q : ℕ) (f : Entry). f .done ≡ true → EndTotal (s .memory) (Notes.started w op ∷ run) q (suc (f .ended-at)) (f .lines)
             (f .operation)) (s .fate) (s .now) _ q
           (λ e d. absurd (true≢false (sym d))) (λ e d. old-end (Notes.started w op) (s .memory) unmoved q d) }
 
@@ -255,14 +254,15 @@ module _ (s : Catalogue) (invariant : Invariant s) (run : List Note) (agreed : A
         record {
           workers = λ w'. put-all (λ (w' : ℕ) (y : Worker). WorkerTotal after-line (this (Notes.ends-with n) ∷ run) (suc (s .now)) y) (s .worker) w idle w'
             (λ e. tt) (λ e. keep (this (Notes.ends-with n)) after-line L w' (s .worker w') refl);
-          ends = λ q. put-all (λ (q : ℕ) (f : Fate). f .done ≡ true → EndTotal after-line (this (Notes.ends-with n) ∷ run) q (suc (f .ended-at))
+          ends = λ q. put-all (λ (q : ℕ) (f : Entry). f .done ≡ true → EndTotal after-line (this (Notes.ends-with n) ∷ run) q (suc (f .ended-at))
               (f .lines) (f .operation)) (s .fate) o _ q
             (λ e d. absurd (true≢false (sym d))) (λ e d. old-end (this (Notes.ends-with n)) after-line L q d) }
     settled (answers-change x) c =
         record {
           workers = λ w'. put-all (λ (w' : ℕ) (y : Worker). WorkerTotal after-line (this (Notes.answers x) ∷ run) (suc (s .now)) y) (s .worker) w idle w'
             (λ e. tt) (λ e. keep (this (Notes.answers x)) after-line L w' (s .worker w') refl);
-          ends = λ q. put-all (λ (q : ℕ) (f : Fate). f .done ≡ true → EndTotal after-line (this (Notes.answers x) ∷ run) q (suc (f .ended-at)) (f .lines)
+          ends = λ q. put-all (λ (q : ℕ) (f : Entry). f .done ≡ true → EndTotal after-line (this (Notes.answers x) ∷ run) q (suc (f .ended-at))
+              (f .lines)
               (f .operation)) (s .fate) o _ q
             (λ e d. subst (λ (op : Operation). EndTotal after-line (this (Notes.answers x) ∷ run) q (suc (s .now)) (line-number ph ∷ l) op)
                 (sym (K .operation))
@@ -272,7 +272,8 @@ module _ (s : Catalogue) (invariant : Invariant s) (run : List Note) (agreed : A
         record {
           workers = λ w'. put-all (λ (w' : ℕ) (y : Worker). WorkerTotal after-line (this (Notes.answers x) ∷ run) (suc (s .now)) y) (s .worker) w idle w'
             (λ e. tt) (λ e. keep (this (Notes.answers x)) after-line L w' (s .worker w') refl);
-          ends = λ q. put-all (λ (q : ℕ) (f : Fate). f .done ≡ true → EndTotal after-line (this (Notes.answers x) ∷ run) q (suc (f .ended-at)) (f .lines)
+          ends = λ q. put-all (λ (q : ℕ) (f : Entry). f .done ≡ true → EndTotal after-line (this (Notes.answers x) ∷ run) q (suc (f .ended-at))
+              (f .lines)
               (f .operation)) (s .fate) o _ q
             (λ e d. subst (λ (op : Operation). EndTotal after-line (this (Notes.answers x) ∷ run) q (suc (s .now)) (line-number ph ∷ l) op)
                 (sym (K .operation))

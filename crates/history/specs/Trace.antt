@@ -7,9 +7,10 @@ use Prim.Native.Nat.{ℕ, suc, _≤_, _<_, max}
 use native.Mathlib.Omega.{arith}
 use lib.ListN.{length, getD}
 use Rattle.history.specs.Tools.{Split, split}
+use Rattle.history.specs.Definition1.{Follows}
 use Rattle.history.specs.Notes.{Deed, Note}
 use Rattle.history.specs.Notes as Notes
-use Rattle.history.specs.Statements.{Noted, Executed}
+use Rattle.history.specs.Statements.{Executed}
 use Rattle.history.specs.Machine.{Item, Memory, Operation, register, v-read, v-cas, take-snapshot, read-snapshot, total, Then, then-39,
     then-43, then-48, then-52, then-34, then-total-34, Phase, line-37, line-39, line-41, line-43, line-45, line-46, line-48, line-50, line-51,
     line-52, line-5, line-6, line-32, line-34, total-32, total-34, closing, line-20, line-21, line-22, Place, observes, Worker, idle, busy, Catalogue}
@@ -21,7 +22,7 @@ use Rattle.history.specs.Later.{fetched-later, read-later}
 pub executed-more : {run : List Note} {o line t : ℕ} {d : Deed} (x : Note) → Executed run o line d t → Executed (x ∷ run) o line d t
 executed-more x e = record { past = e .past; w = e .w; e = e .e; noted = inr (e .noted); its = e .its; at = e .at }
 
-pub noted-past : (y : Note) (past run : List Note) → Noted y past run → length past < length run
+pub noted-past : (y : Note) (past run : List Note) → Follows y past run → length past < length run
 noted-past y past [] n = absurd n
 noted-past y past (z ∷ l) (inl (p, q)) = omega (arith, ap length q)
 noted-past y past (z ∷ l) (inr n) = omega (arith, noted-past y past l n)

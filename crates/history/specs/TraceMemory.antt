@@ -8,15 +8,15 @@ use native.Mathlib.Omega.{arith}
 use lib.Dec.{ltb, eqb}
 use lib.ListN.{length}
 use Rattle.history.specs.Tools.{put, put-all, put-same, by-eq, by-lt, by-le, Split, split}
-use Rattle.history.specs.Notes.{Deed, Note}
+use Rattle.history.specs.Definition1.{Follows}
+use Rattle.history.specs.Notes.{Deed, Note, ledger}
 use Rattle.history.specs.Notes as Notes
-use Rattle.history.specs.Ledger.{ledger}
 use Rattle.history.specs.NoteParts.{deed-tag, deed-item, note-tag, note-line, note-worker, note-deed}
-use Rattle.history.specs.Statements.{Noted, Executed}
-use Rattle.history.specs.Machine.{Item, Memory, Operation, Then, Phase, line-37, line-39, line-41, line-43, line-45, line-46, line-48, line-50,
-    line-51, line-52, line-5, line-6, line-32, line-34, total-32, total-34, closing, line-20, line-21, line-22, helped-item, line-number, Found,
-    no-node, node, node-to-take, on-45, Effect, nothing, counts, publishes, stamps, takes-node, gives-back, Comes, goes-on, Next, line, memory-after,
-    published, stamped}
+use Rattle.history.specs.Statements.{Executed}
+use Rattle.history.specs.Machine.{Item, Memory, Operation, Then, Phase, line-37, line-39, line-41, line-43, line-45, line-46, line-48,
+    line-50, line-51, line-52, line-5, line-6, line-32, line-34, total-32, total-34, closing, line-20, line-21, line-22, helped-item, line-number,
+    Found, no-node, node, node-to-take, on-45, Effect, nothing, counts, publishes, stamps, takes-node, gives-back, Comes, goes-on, Next, line,
+    memory-after, published, stamped}
 use Rattle.history.specs.Facts.{MemoryFacts, Later}
 use Rattle.history.specs.Changes.{Allowed, effect-later}
 use Rattle.history.specs.MachineNotes.{phase-deed}
@@ -89,7 +89,7 @@ pub executed-inv : (run : List Note) (y : Note) {o line t : ℕ} {d : Deed} → 
   Executed run o line d t ⊎ ((note-tag y ≡ 3) × (note-line y ≡ line) × (note-deed y ≡ d) × (ledger run .current (note-worker y) ≡ o) × (length run ≡ t))
 executed-inv run y {o} {line} {t} {d} x = at (x .noted)
   where
-    at : Noted (Notes.stepped (x .w) line d (x .e)) (x .past) (y ∷ run) →
+    at : Follows (Notes.stepped (x .w) line d (x .e)) (x .past) (y ∷ run) →
         Executed run o line d t ⊎ ((note-tag y ≡ 3) × (note-line y ≡ line) × (note-deed y ≡ d) × (ledger run .current (note-worker y) ≡ o)
         × (length run ≡ t))
     at (inr n) = inl (record { past = x .past; w = x .w; e = x .e; noted = n; its = x .its; at = x .at })

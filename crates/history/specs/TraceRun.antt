@@ -8,14 +8,13 @@ use native.Mathlib.Omega.{arith}
 use lib.ListN.{length}
 use Rattle.definitions.specs.Calls.{Call}
 use Rattle.history.specs.Tools.{put, put-all, put-same, put-other, by-eq}
-use Rattle.history.specs.Notes.{Deed, Note}
+use Rattle.history.specs.Notes.{Deed, Note, ledger}
 use Rattle.history.specs.Notes as Notes
-use Rattle.history.specs.Ledger.{Fate, ended, turned-away, ledger}
 use Rattle.history.specs.Statements.{Executed}
-use Rattle.history.specs.Machine.{Item, Memory, Limits, found, node-to-take, Operation, register, v-read, v-cas, take-snapshot, read-snapshot,
-    total, Phase, total-at, line-number, Effect, nothing, counts, publishes, stamps, takes-node, gives-back, Comes, goes-on, ends-with,
-    answers-change, answers, line, memory-after, place-after, Place, unplaced, awaits, changes, observes, Worker, idle, busy, Catalogue, settle,
-    affect, tick, first-phase, begun, registered, call, fresh, after-calls}
+use Rattle.history.specs.Machine.{Entry, ended, turned-away, Item, Memory, Limits, found, node-to-take, Operation, register, v-read, v-cas,
+    take-snapshot, read-snapshot, total, Phase, total-at, line-number, Effect, nothing, counts, publishes, stamps, takes-node, gives-back, Comes,
+    goes-on, ends-with, answers-change, answers, line, memory-after, place-after, Place, unplaced, awaits, changes, observes, Worker, idle, busy,
+    Catalogue, settle, affect, tick, first-phase, begun, registered, call, fresh, after-calls}
 use Rattle.history.specs.Facts.{Later}
 use Rattle.history.specs.Changes.{Allowed, effect-later}
 use Rattle.history.specs.RightAnswers.{phase-operation, has-published, LineRight}
@@ -121,7 +120,7 @@ module _ (s : Catalogue) (invariant : Invariant s) (run : List Note) (A : Agrees
           (λ i v a b. absurd (omega arith))
           (λ h a b. absurd (omega arith));
         workers = others x at m' L;
-        ends = λ q. put-all (λ (q : ℕ) (f : Fate). f .done ≡ true → EndTraced m' (x ∷ run) q (f .operation) (f .lines)
+        ends = λ q. put-all (λ (q : ℕ) (f : Entry). f .done ≡ true → EndTraced m' (x ∷ run) q (f .operation) (f .lines)
             (put (s .place) (s .now) (changes (s .memory .items) 0) q)) (s .fate) (s .now) _ q
           (λ e d. tt)
           (λ e d. subst (λ (p : Place). EndTraced m' (x ∷ run) q (s .fate q .operation) (s .fate q .lines) p) (sym (put-other (s .place) (s .now) _ q e))
@@ -158,7 +157,7 @@ module _ (s : Catalogue) (invariant : Invariant s) (run : List Note) (A : Agrees
             (λ i v a b. absurd (omega arith)) (λ i j a b. absurd (omega arith)) (λ i v a b. absurd (omega arith)) (λ h a b. absurd (omega arith));
         workers = λ w'. put-all (λ (w' : ℕ) (y : Worker). WorkerTraced (s .memory) (Notes.started w op ∷ run) y) (s .worker) w _ w'
             (λ e. first-traced (Notes.started w op) (s .now) op) (λ e. others (Notes.started w op) at (s .memory) stay w');
-        ends = λ q. put-all (λ (q : ℕ) (f : Fate). f .done ≡ true → EndTraced (s .memory) (Notes.started w op ∷ run) q (f .operation) (f .lines)
+        ends = λ q. put-all (λ (q : ℕ) (f : Entry). f .done ≡ true → EndTraced (s .memory) (Notes.started w op ∷ run) q (f .operation) (f .lines)
             (put (s .place) (s .now) unplaced q)) (s .fate) (s .now) _ q
           (λ e d. absurd (true≢false (sym d)))
           (λ e d. subst (λ (p : Place). EndTraced (s .memory) (Notes.started w op ∷ run) q (s .fate q .operation) (s .fate q .lines) p)
@@ -261,7 +260,7 @@ module _ (s : Catalogue) (invariant : Invariant s) (run : List Note) (A : Agrees
           memory = memory-traced (Notes.ends-with k);
           workers = λ w'. put-all (λ (w' : ℕ) (y : Worker). WorkerTraced after (this (Notes.ends-with k) ∷ run) y) (s .worker) w idle w' (λ e. tt)
               (λ e. others-step (Notes.ends-with k) w' e);
-          ends = λ q. put-all (λ (q : ℕ) (f : Fate). f .done ≡ true → EndTraced after (this (Notes.ends-with k) ∷ run) q (f .operation) (f .lines)
+          ends = λ q. put-all (λ (q : ℕ) (f : Entry). f .done ≡ true → EndTraced after (this (Notes.ends-with k) ∷ run) q (f .operation) (f .lines)
               (places q)) (s .fate) o _ q
             (λ e d. absurd (true≢false (sym d))) (λ e d. old-ends (Notes.ends-with k) q d e) }
     after-step-traced (answers-change x) c =
@@ -269,7 +268,7 @@ module _ (s : Catalogue) (invariant : Invariant s) (run : List Note) (A : Agrees
           memory = memory-traced (Notes.answers x);
           workers = λ w'. put-all (λ (w' : ℕ) (y : Worker). WorkerTraced after (this (Notes.answers x) ∷ run) y) (s .worker) w idle w' (λ e. tt)
               (λ e. others-step (Notes.answers x) w' e);
-          ends = λ q. put-all (λ (q : ℕ) (f : Fate). f .done ≡ true → EndTraced after (this (Notes.answers x) ∷ run) q (f .operation) (f .lines)
+          ends = λ q. put-all (λ (q : ℕ) (f : Entry). f .done ≡ true → EndTraced after (this (Notes.answers x) ∷ run) q (f .operation) (f .lines)
               (places q)) (s .fate) o _ q
             (λ e d. subst (λ (op : Operation). EndTraced after (this (Notes.answers x) ∷ run) q op (line-number ph ∷ l) (places q)) (sym (K .operation))
               (subst (λ (q : ℕ). EndTraced after (this (Notes.answers x) ∷ run) q (phase-operation ph) (line-number ph ∷ l) (places q)) (sym e) (c _)))
@@ -279,7 +278,7 @@ module _ (s : Catalogue) (invariant : Invariant s) (run : List Note) (A : Agrees
           memory = memory-traced (Notes.answers x);
           workers = λ w'. put-all (λ (w' : ℕ) (y : Worker). WorkerTraced after (this (Notes.answers x) ∷ run) y) (s .worker) w idle w' (λ e. tt)
               (λ e. others-step (Notes.answers x) w' e);
-          ends = λ q. put-all (λ (q : ℕ) (f : Fate). f .done ≡ true → EndTraced after (this (Notes.answers x) ∷ run) q (f .operation) (f .lines)
+          ends = λ q. put-all (λ (q : ℕ) (f : Entry). f .done ≡ true → EndTraced after (this (Notes.answers x) ∷ run) q (f .operation) (f .lines)
               (put places o (observes τ j x) q)) (s .fate) o _ q
             (λ e d. subst (λ (op : Operation). EndTraced after (this (Notes.answers x) ∷ run) q op (line-number ph ∷ l) (put places o (observes τ j x) q))
                 (sym (K .operation))

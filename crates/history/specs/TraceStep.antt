@@ -8,9 +8,8 @@ use native.Mathlib.Omega.{arith}
 use lib.Dec.{T, ltb, eqb, ltb→lt, nltb→le}
 use lib.ListN.{length}
 use Rattle.history.specs.Tools.{by-eq, by-lt, by-le}
-use Rattle.history.specs.Notes.{Deed, Note}
+use Rattle.history.specs.Notes.{Deed, Note, ledger}
 use Rattle.history.specs.Notes as Notes
-use Rattle.history.specs.Ledger.{ledger}
 use Rattle.history.specs.Statements.{Executed}
 use Rattle.history.specs.Machine.{Memory, Operation, take-snapshot, Then, then-39, then-43, then-48, then-52, then-34, then-total-34, Phase,
     line-37, line-39, line-41, line-43, line-45, line-46, line-48, line-50, line-51, line-52, line-5, line-6, line-32, line-34, total-32, total-34,

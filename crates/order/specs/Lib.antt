@@ -1,3 +1,4 @@
+pub mod Kept
 pub mod Theorems
 pub mod LastMake
 pub mod WordsExample

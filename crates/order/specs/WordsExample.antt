@@ -11,8 +11,10 @@ use Rattle.definitions.specs.Lines.{fetch-head, line-20, line-21, line-22, line
 use Rattle.definitions.specs.Calls.{Call, registering, starting-v-read, starting-v-cas, starting-take-snapshot, starting-read-snapshot, stepping,
     making, outcome}
 use Rattle.history.specs.Definition1.{v-read, v-cas, take-snapshot}
-use Rattle.history.specs.Notes.{fetches, publishes, stamps, moves, nothing, goes-on, answers, registered, started, stepped, note, words-after, notes}
-use Rattle.history.specs.Effects.{birth, change, snapshot, last-step, last-published, deed-effect, note-effect, insert, insert-all, effects}
+use Rattle.history.specs.Tools.{put}
+use Rattle.history.specs.Notes.{fetches, publishes, stamps, moves, nothing, goes-on, answers, registered, started, stepped, note, words-after,
+    notes, ledger, entered, birth, change, snapshot}
+use Rattle.history.specs.Effects.{insert, last-published, effects}
 
 -- the newest first
 abbrev made : List Call → List Call → List Call
@@ -43,8 +45,8 @@ helped-notes = refl
 
 -- the change took effect at worker 1's line 21, call 10, and the snapshot at call 13
 helped-effects : effects (notes start helped)
-  ≡ record { time = 13; what = snapshot 0 } ∷ record { time = 10; what = change 0 2 6 } ∷ record { time = 0; what = birth 0 1 100 } ∷ []
-unfolding effects insert-all insert note-effect deed-effect last-step last-published notes note words-after outcome making registering starting-v-read
+  ≡ snapshot 13 0 ∷ change 10 0 2 6 ∷ birth 0 0 1 100 ∷ []
+unfolding effects insert ledger entered put last-published notes note words-after outcome making registering starting-v-read
     starting-v-cas starting-take-snapshot starting-read-snapshot stepping header-damaged-at arguments-damaged kept-damaged running-damaged table
     row-of lines line-of-phase fetch-head line-20 line-21 line-22 line-39 line-43 line-45 line-46 line-48 line-50 line-52 line-5 line-6 line-34
 helped-effects = refl
