@@ -2,8 +2,9 @@
  * Goravesha: which project is each linked media item charged to, and how large is each project, at one moment.
  *
  * All state stands in words that the host lends: GORAVESHA_WORDS(P, M, N) numbers of 32 bits, at any address that is good for
- * uint32_t. Words past those are never touched. No call allocates, locks, prints, keeps a pointer, or asks anything of its arguments:
- * every call may be made with any numbers on any words, of any count. Calls on the same words must come one after the other.
+ * uint32_t. Words past those are never touched. No call allocates, locks, prints or keeps a pointer, and none asks anything of its numbers:
+ * every call may be made with any numbers on any words, of any count. What the host owes: `words` is good for `count` words, `answer` for its
+ * four numbers, apart from the words; and calls on the same words come one after the other.
  *
  * Every call returns the code of its answer and writes the answer's four numbers: value, steps, 0, 0.
  *

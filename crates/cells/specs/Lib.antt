@@ -7,4 +7,3 @@ pub mod Spares
 pub mod Untouched
 pub mod IllFormed
 pub mod Depends
-pub mod CellsRun

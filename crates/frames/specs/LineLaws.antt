@@ -68,9 +68,6 @@ after-end l n e h =
     rest-read l n ∙ drop-of-length-le l h
     ∙ sym (after-by l ∙ drop-of-length-le l {i = suc (line-length l)} (omega arith))
 
-pub after-shorter : (l : List ℕ) → 0 < length l → length (after-line l) < length l
-after-shorter l h = rw after-by (omega (arith, length-drop (suc (line-length l)) l))
-
 -- ---- a text with a line feed is its first line, the line feed and the rest; one without is unfinished
 
 pub split-feed : (t : List ℕ) → has-feed t ≡ true → t ≡ first-line t ++ (feed ∷ after-line t)

@@ -1,2 +1,1 @@
-// The code of this crate is none: its specs are the history of a catalogue and what is proved of it.
-pub struct Nothing { pub none: u32 }
+// The history of a catalogue: what is promised of a run (specs/Definition1, Notes, Statements), and its proof for the machine of versions. There is no code here.

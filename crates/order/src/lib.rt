@@ -1,2 +1,1 @@
-// There is no code here: specs/ ends the history. It says of the words, and of the calls that C makes, what demands 2 and 3 promise.
-pub struct Nothing { pub none: u32 }
+// Demands 2 and 3 of the words, and so of the calls that C makes (specs/Theorems). There is no code here.

@@ -1,4 +1,1 @@
 // The group of fifteen runs of document 01, as one theorem over the definitions (specs/Fifteen.antt). There is no code here.
-pub struct Fifteen {
-    pub runs: u8,
-}
