@@ -6,15 +6,17 @@ use mathlib.Core.List.{List, [], _∷_}
 use lib.Dec.{ltb, leb, eqb}
 use lib.ListN.{getD, length}
 use native.Mathlib.Omega.{arith}
-use borrow.Author.Tests.{lt-ltb, le-ltb, ltb-false, leb-false, eq-eqb, ne-eqb, eqb-true, eqb-false}
+use borrow.Author.Tests.{lt-ltb, le-ltb, ltb-false, leb-false, eq-eqb, ne-eqb, eqb-true}
+use Rattle.definitions.specs.declared.Answer.{Answer}
 use Rattle.definitions.specs.declared.PhaseRow.{PhaseRow}
-use Rattle.definitions.specs.Cells.{Cells, cells-at, cells-of, items-at, nodes-at, needed, workers, items-limit, nodes-limit, projects, counter-limit, counter, items, used, given-back, phase, steps, item, old, new, handle, noted, node, new-node, seen}
+use Rattle.definitions.specs.Cells.{Cells, cells-of, items-at, nodes-at, needed, counter-limit, counter, items, used, given-back, phase, steps, item, old, new, handle, noted, node, new-node, seen}
 use Rattle.definitions.specs.Phases.{row-of}
-use Rattle.definitions.specs.Damage.{any-of, outside, sizes-outside, header-tests, header-damaged-at, header-damaged, bad-item, bad-value, bad-handle, bad-node, bad-time, inside-item, sum, total-tests, arguments-damaged, keeps-node, keeps-new-node, kept-tests, kept-damaged, running-damaged, worker-damaged, item-damaged}
+use Rattle.definitions.specs.Damage.{any-of, outside, sizes-outside, header-tests, header-damaged-at, header-damaged, bad-item, bad-value, bad-handle, bad-node, inside-item, sum, total-tests, arguments-damaged, keeps-node, keeps-new-node, kept-tests, kept-damaged, running-damaged, worker-damaged, item-damaged}
 use Rattle.tables.specs.Ranges.{none-of, some-of, neither}
 use Rattle.definitions.specs.Answers.{Outcome, _⇒_, unless}
 use Rattle.definitions.specs.Lines.{line-of-phase, no-node}
-use Rattle.lines.specs.Stepped.{Ready, In-item, Has-node, Has-new-node, Small-sum, stepped, Can-take}
+use Rattle.definitions.specs.Promises.{Met}
+use Rattle.lines.specs.Stepped.{Ready, stepped, Can-take}
 
 within : (low high x : ℕ) → outside low high x ≡ false → x ≤ high
 within low high x e = ltb-false high x (none-of (ltb x low ∷ ltb high x ∷ []) 1 e)
@@ -59,30 +61,7 @@ and-false : (s t : Bool) → s ≡ false → (s || t) ≡ false → t ≡ false
 and-false true t e h = absurd (false≢true (sym e))
 and-false false t e h = h
 
--- A worker's record that is not damaged and not idle.
-pub worker-sound : (m : Cells) (w : ℕ) → worker-damaged m w ≡ false → (m (phase w) ≡ 0 → ⊥) → running-damaged (row-of (m (phase w))) m w ≡ false
-worker-sound m w e busy =
-    let rest = not (eqb (m (phase w)) 0) && running-damaged (row-of (m (phase w))) m w in
-    and-true (not (eqb (m (phase w)) 0)) (running-damaged (row-of (m (phase w))) m w) (ap not (ne-eqb (m (phase w)) 0 busy))
-    (none-of (ltb 35 (m (phase w)) ∷ rest ∷ []) 1 e)
-
-pub known-phase : (m : Cells) (w : ℕ) → worker-damaged m w ≡ false → m (phase w) ≤ 35
-known-phase m w e =
-    ltb-false 35 (m (phase w)) (none-of (ltb 35 (m (phase w)) ∷ (not (eqb (m (phase w)) 0) && running-damaged (row-of (m (phase w))) m w) ∷ []) 0 e)
-
 module _ (r : PhaseRow) (m : Cells) (w : ℕ) where
-  pub few-steps : running-damaged r m w ≡ false → m (steps w) < 5121
-  unfolding running-damaged
-  few-steps e = let h = ltb-false 5120 (m (steps w)) (none-of (ltb 5120 (m (steps w)) ∷ arguments-damaged r m w ∷ kept-damaged r m w ∷ []) 0 e) in omega arith
-
-  pub arguments-sound : running-damaged r m w ≡ false → arguments-damaged r m w ≡ false
-  unfolding running-damaged
-  arguments-sound e = none-of (ltb 5120 (m (steps w)) ∷ arguments-damaged r m w ∷ kept-damaged r m w ∷ []) 1 e
-
-  pub kept-sound : running-damaged r m w ≡ false → kept-damaged r m w ≡ false
-  unfolding running-damaged
-  kept-sound e = none-of (ltb 5120 (m (steps w)) ∷ arguments-damaged r m w ∷ kept-damaged r m w ∷ []) 2 e
-
   -- The lines at which the record keeps a node, by their place in that list.
   pub node-kept : (k : ℕ) → kept-damaged r m w ≡ false
       → getD (eqb (r .line) 20 ∷ eqb (r .line) 21 ∷ eqb (r .line) 22 ∷ eqb (r .line) 34 ∷ eqb (r .line) 39 ∷ eqb (r .line) 43 ∷ eqb (r .line) 45 ∷ eqb (r .line) 46 ∷ []) k false ≡ true
@@ -147,33 +126,32 @@ module _ (r : PhaseRow) (m : Cells) (w : ℕ) where
       is-total : any-of (total-tests r m w) ≡ false
       is-total = rw (differs 3 (λ q. omega arith)) (rw (differs 1 (λ q. omega arith), differs 2 (λ q. omega arith), differs 3 (λ q. omega arith), differs 4 (λ q. omega arith)) at e)
 
--- Everything has its place, and the step can be counted.
-pub ready : (ws : List ℕ) (w : ℕ) → Header ws → w < getD ws 0 0 → worker-damaged (cells-of ws) w ≡ false → (cells-of ws (phase w) ≡ 0 → ⊥) → Ready (items-at ws) (nodes-at ws) w ws
-ready ws w h l e busy =
-    let m = cells-of ws in
-    let few = few-steps (row-of (m (phase w))) m w (worker-sound m w e busy) in
-    let known = known-phase m w e in
-    record {
-      worker = omega (arith, l);
-      items = omega (arith, h .items);
-      nodes = h .long;
-      used = h .used;
-      given-back = h .given-back;
-      few-nodes = h .few-nodes;
-      few-items = omega (arith, h .items, h .few-items);
-      phase = omega (arith, known);
-      steps = few }
-
--- A busy worker whose record is not damaged; and its step, past the refusals that come before.
+-- A busy worker whose step count and arguments are not damaged; and its step, past the refusals that come before: the item that it is inside of,
+-- what its lines keep, and the words of its line.
 pub record Busy (w : ℕ) (ws : List ℕ) : Type 0 where
   pub there : w < getD ws 0 0
-  pub sound : worker-damaged (cells-of ws) w ≡ false
   pub runs : getD ws (16 + 16 * w + 0) 0 ≡ 0 → ⊥
   pub known : getD ws (16 + 16 * w + 0) 0 ≤ 35
+  pub few : getD ws (16 + 16 * w + 1) 0 ≤ 5120
+  pub arguments : arguments-damaged (row-of (getD ws (16 + 16 * w + 0) 0)) (cells-of ws) w ≡ false
 
 abbrev pub busy-step : Cells → ℕ → Outcome
 busy-step m w =
-    unless ((inside-item (row-of (m (phase w))) && item-damaged m (m (item w))) ⇒ 2 ∷ []) (stepped (line-of-phase (m (phase w))) m w)
+    unless ((inside-item (row-of (m (phase w))) && item-damaged m (m (item w))) ⇒ 2 ∷ kept-damaged (row-of (m (phase w))) m w ⇒ 2 ∷ [])
+    (stepped (line-of-phase (m (phase w))) m w)
+
+-- Everything has its place, and the step can be counted.
+pub ready : (ws : List ℕ) (w : ℕ) → Header ws → Busy w ws → Ready (items-at ws) (nodes-at ws) w ws
+ready ws w h b = record {
+    worker = omega (arith, b .there);
+    items = omega (arith, h .items);
+    nodes = h .long;
+    used = h .used;
+    given-back = h .given-back;
+    few-nodes = h .few-nodes;
+    few-items = omega (arith, h .items, h .few-items);
+    phase = omega (arith, b .known);
+    steps = omega (arith, b .few) }
 
 -- Register can take a node where one is left.
 pub can-take-at : (ws : List ℕ) → Header ws → no-node (cells-of ws) ≡ false → Can-take (nodes-at ws) ws
@@ -194,9 +172,44 @@ idle-sound m w h =
     neither (ltb 35 (m (phase w))) (not (eqb (m (phase w)) 0) && running-damaged (row-of (m (phase w))) m w)
     (le-ltb 35 (m (phase w)) (omega (arith, h))) (ap (λ (b : Bool). not b && running-damaged (row-of (m (phase w))) m w) (eq-eqb (m (phase w)) 0 h))
 
-pub running-tells : (m : Cells) (w : ℕ) {r : PhaseRow} {v t : Bool} → m (phase w) ≤ 35 → (m (phase w) ≡ 0 → ⊥) → r ≡ row-of (m (phase w))
-    → t ≡ running-damaged r m w → t ≡ v → worker-damaged m w ≡ v
-running-tells m w h busy e d v =
-    ap (λ (b : Bool). b || (not (eqb (m (phase w)) 0) && running-damaged (row-of (m (phase w))) m w)) (le-ltb 35 (m (phase w)) h)
-    ∙ ap (λ (b : Bool). not b && running-damaged (row-of (m (phase w))) m w) (ne-eqb (m (phase w)) 0 busy)
-    ∙ ap (λ (x : PhaseRow). running-damaged x m w) (sym e) ∙ sym d ∙ v
+-- What step asks of a running record before its line: its step count and its arguments.
+abbrev pub early : PhaseRow → Cells → ℕ → Bool
+early r m w = ltb 5120 (m (steps w)) || arguments-damaged r m w
+
+module _ (m : Cells) (w : ℕ) (known : m (phase w) ≤ 35) (busy : m (phase w) ≡ 0 → ⊥) where
+  running-is : worker-damaged m w ≡ running-damaged (row-of (m (phase w))) m w
+  running-is =
+      ap (λ (b : Bool). b || (not (eqb (m (phase w)) 0) && running-damaged (row-of (m (phase w))) m w)) (le-ltb 35 (m (phase w)) known)
+      ∙ ap (λ (b : Bool). not b && running-damaged (row-of (m (phase w))) m w) (ne-eqb (m (phase w)) 0 busy)
+
+  -- Where that is damaged, the worker is; where it is not, the worker is damaged in what it keeps.
+  pub early-damaged : early (row-of (m (phase w))) m w ≡ true → worker-damaged m w ≡ true
+  unfolding running-damaged
+  early-damaged e = running-is ∙ rw e refl
+
+  pub late-damaged : early (row-of (m (phase w))) m w ≡ false → worker-damaged m w ≡ kept-damaged (row-of (m (phase w))) m w
+  unfolding running-damaged
+  late-damaged e = running-is ∙ rw e refl
+
+-- The test as step has it, at a row that is the phase's.
+pub early-told : (m : Cells) (w : ℕ) {r : PhaseRow} {v t : Bool} → r ≡ row-of (m (phase w)) → t ≡ early r m w → t ≡ v → early (row-of (m (phase w))) m w ≡ v
+early-told m w e d v = ap (λ (x : PhaseRow). early x m w) (sym e) ∙ sym d ∙ v
+
+pub made-busy : (ws : List ℕ) (w : ℕ) → w < getD ws 0 0 → (getD ws (16 + 16 * w + 0) 0 ≡ 0 → ⊥) → getD ws (16 + 16 * w + 0) 0 ≤ 35
+    → early (row-of (getD ws (16 + 16 * w + 0) 0)) (cells-of ws) w ≡ false → Busy w ws
+made-busy ws w l busy known e =
+    let m = cells-of ws in
+    let r = row-of (getD ws (16 + 16 * w + 0) 0) in
+    let none = none-of (ltb 5120 (getD ws (16 + 16 * w + 1) 0) ∷ arguments-damaged r m w ∷ []) in
+    record { there = l; runs = busy; known = known; few = ltb-false 5120 (getD ws (16 + 16 * w + 1) 0) (none 0 e); arguments = none 1 e }
+
+-- Two refusals with one number may be asked in either order; a third, between them, does not hold.
+pub in-order : (a b : ℕ) (ws : List ℕ) {r : Answer} {after : List ℕ} (s k z t : Bool) (o : Outcome) → s ≡ k → z ≡ false
+    → Met a b ws (unless (t ⇒ 2 ∷ k ⇒ 2 ∷ []) o) r after → Met a b ws (unless (s ⇒ 2 ∷ z ⇒ 5 ∷ t ⇒ 2 ∷ []) o) r after
+in-order a b ws {r} {after} s k z t o e f d = rw (e, f) (swapped k t d)
+  where
+    swapped : (k t : Bool) → Met a b ws (unless (t ⇒ 2 ∷ k ⇒ 2 ∷ []) o) r after → Met a b ws (unless (k ⇒ 2 ∷ t ⇒ 2 ∷ []) o) r after
+    swapped true true d = d
+    swapped true false d = d
+    swapped false true d = d
+    swapped false false d = d

@@ -2,7 +2,7 @@
 use crate::dispatch::run_row;
 use definitions::{Answer, PhaseRow};
 use lines::endings::refuse;
-use tables::damage::{header_is_damaged, item_is_damaged, step_is_damaged};
+use tables::damage::{header_is_damaged, item_is_damaged, steps_or_arguments_are_damaged};
 use tables::fields::{HEADER_WORDS, ITEM, ITEMS_LIMIT, ITEM_WORDS, PHASE, WORKERS, WORKER_WORDS};
 use tables::phases::row_at;
 ghost use mathlib.Core.Path.{_≡_};
@@ -33,7 +33,7 @@ fn its_item_is_damaged(words: &[u32], items_at: usize, nodes_at: usize, w: usize
     item_is_damaged(words, items_at, i)
 }
 
-// A step of a busy worker whose record is not damaged, at the row of its phase.
+// A step of a busy worker whose step count and arguments are not damaged, at the row of its phase.
 fn step_busy(words: &mut [u32], w: usize, row: PhaseRow) -> Answer
     requires { ⌜ Header (now words) × Busy w (now words) × (row ≡ row-of (getD (now words) (16 + 16 * w + 0) 0)) ⌝ }
     ensures { λ r. ⌜ Met (items-at (now (words .entry))) (nodes-at (now (words .entry))) (now (words .entry)) (busy-step (cells-of (now (words .entry))) w) r (now (words .exit)) ⌝ }
@@ -63,7 +63,7 @@ fn step_sound(words: &mut [u32], worker: u32) -> Answer
         return refuse(5);
     }
     let row = row_at(phase as usize);
-    if step_is_damaged(words, w, row) {
+    if steps_or_arguments_are_damaged(words, w, row) {
         return refuse(2);
     }
     step_busy(words, w, row)

@@ -2,13 +2,14 @@
 use mathlib.Core.Path.{_≡_, refl}
 use mathlib.Core.Bool.{Bool, true, false, false≢true, not, _||_, _&&_}
 use mathlib.Core.List.{List, [], _∷_}
-use Prim.Native.Nat.{ℕ, zero, suc, _+_, _*_, _<_, _≤_}
+use Prim.Native.Nat.{ℕ, zero, suc, _+_, _*_, _<_}
 use native.Mathlib.Omega.{arith}
 use borrow.Author.Tests.{lt-ltb}
 use lib.Dec.{ltb, leb, eqb}
 use lib.ListN.{getD}
-use Rattle.definitions.specs.Cells.{needed}
-use Rattle.definitions.specs.Damage.{any-of, any-from, header-tests, header-damaged-at}
+use Rattle.definitions.specs.declared.PhaseRow.{PhaseRow}
+use Rattle.definitions.specs.Cells.{Cells, needed, used, counter, counter-limit, node, new-node, seen}
+use Rattle.definitions.specs.Damage.{any-of, any-from, header-tests, header-damaged-at, bad-node, bad-time, kept-damaged}
 
 abbrev pub node-outside : List ℕ → (n projects used counter : ℕ) → Bool
 node-outside ns n projects used counter =
@@ -69,3 +70,14 @@ short-damaged count p m n q c now held taken back h = some-of (header-tests coun
 
 pub neither : (a b : Bool) → a ≡ false → b ≡ false → (a || b) ≡ false
 neither a b e f = rw (e, f)
+
+-- What a record keeps, by the number of its line: a row's operation says nothing of it.
+unfoldable pub kept-at : ℕ → Cells → ℕ → Bool
+kept-at l m w =
+    any-of ((any-of (eqb l 20 ∷ eqb l 21 ∷ eqb l 22 ∷ eqb l 34 ∷ eqb l 39 ∷ eqb l 43 ∷ eqb l 45 ∷ eqb l 46 ∷ []) && bad-node m (m (node w)))
+    ∷ ((eqb l 46 || eqb l 50) && bad-node m (m (new-node w)))
+    ∷ (eqb l 22 && bad-time m (m (seen w))) ∷ (eqb l 6 && leb (m counter-limit) (m (seen w))) ∷ [])
+
+pub kept-is : (r : PhaseRow) (m : Cells) (w : ℕ) → kept-damaged r m w ≡ kept-at (r .line) m w
+unfolding kept-damaged kept-at
+kept-is r m w = refl

@@ -1,6 +1,6 @@
 -- The rules of the table of phases, by one test computed over the whole table.
-use mathlib.Core.Path.{_≡_, refl, _∙_, subst, sym, ap}
-use mathlib.Core.Bool.{Bool, true, false, false≢true, not, _||_, _&&_}
+use mathlib.Core.Path.{_≡_, refl, _∙_, subst, sym}
+use mathlib.Core.Bool.{Bool, true, false, false≢true, cond, not, _||_, _&&_}
 use mathlib.Core.List.{List, [], _∷_}
 use Prim.Native.Nat.{ℕ, zero, suc, _+_, _<_}
 use native.Mathlib.Nat.{add-zero, zero-add, add-suc, suc-add, le-of-suc-le-suc, not-suc-le-zero}
@@ -35,9 +35,9 @@ pub rule : (f : ℕ → PhaseRow → Bool) → every f 0 table ≡ true → (p :
 unfolding row-of
 rule f t p h = subst (λ (m : ℕ). f m (getD table p (row 0 0 false)) ≡ true) (zero-add p) (from f table (row 0 0 false) 0 t p h)
 
--- A busy phase has an operation, and takeSnapshot's are lines 5 and 6.
+-- A busy phase has an operation; takeSnapshot's are lines 5 and 6, and no other's is line 6.
 runs : ℕ → PhaseRow → Bool
-runs p r = eqb p 0 || (not (eqb (r .operation) 0) && (not (eqb (r .operation) 3) || (eqb (r .line) 5 || eqb (r .line) 6)))
+runs p r = eqb p 0 || (not (eqb (r .operation) 0) && cond (eqb (r .operation) 3) (eqb (r .line) 5 || eqb (r .line) 6) (not (eqb (r .line) 6)))
 
 runs-all : (p : ℕ) → p < 36 → runs p (row-of p) ≡ true
 unfolding runs table
@@ -50,3 +50,7 @@ has-operation p h busy e = false≢true (rw (ne-eqb p 0 busy, eq-eqb (row-of p .
 pub snapshot-lines : (p : ℕ) → p < 36 → (p ≡ 0 → ⊥) → row-of p .operation ≡ 3 → (row-of p .line ≡ 5 → ⊥) → row-of p .line ≡ 6
 unfolding runs
 snapshot-lines p h busy e five = eqb-true (row-of p .line) 6 (rw (ne-eqb p 0 busy, ne-eqb (row-of p .operation) 0 (has-operation p h busy), eq-eqb (row-of p .operation) 3 e, ne-eqb (row-of p .line) 5 five) at (runs-all p h))
+
+pub other-lines : (p : ℕ) → p < 36 → (p ≡ 0 → ⊥) → (row-of p .operation ≡ 3 → ⊥) → row-of p .line ≡ 6 → ⊥
+unfolding runs
+other-lines p h busy e six = false≢true (rw (ne-eqb p 0 busy, ne-eqb (row-of p .operation) 0 (has-operation p h busy), ne-eqb (row-of p .operation) 3 e, eq-eqb (row-of p .line) 6 six) at (runs-all p h))

@@ -10,10 +10,11 @@ use definitions::PhaseRow;
 ghost use mathlib.Core.Path.{_≡_};
 ghost use mathlib.Core.Bool.{_||_};
 ghost use Prim.Native.Nat.{ℕ, _+_, _*_, _<_, _≤_};
-ghost use lib.ListN.{length, getD};
-ghost use Rattle.definitions.specs.Cells.{cells-at, needed};
-ghost use Rattle.definitions.specs.Damage.{any-of, outside, sizes-outside, header-damaged-at, header-damaged, arguments-damaged, kept-damaged, running-damaged, worker-damaged, item-damaged};
-ghost use Rattle.tables.specs.Ranges.{node-outside};
+ghost use lib.ListN.{length};
+ghost use lib.Dec.{ltb};
+ghost use Rattle.definitions.specs.Cells.{cells-at, needed, steps};
+ghost use Rattle.definitions.specs.Damage.{any-of, outside, sizes-outside, header-damaged-at, header-damaged, total-tests, arguments-damaged, kept-damaged, running-damaged, worker-damaged, item-damaged};
+ghost use Rattle.tables.specs.Ranges.{node-outside, kept-at};
 
 fn beyond(x: u32, low: u32, high: u32) -> bool
     ensures { λ r. ⌜ r ≡ outside low high x ⌝ }
@@ -69,34 +70,52 @@ pub fn sum_of(high: u32, low: u32) -> u64
     (high as u64) * 4294967296 + (low as u64)
 }
 
-// The arguments of the operation that a record runs.
-fn arguments_are_damaged(words: &[u32], w: usize, row: PhaseRow) -> bool
+// A total's arguments, in the order of definitions/specs/Damage.antt.
+fn total_is_damaged(words: &[u32], w: usize, row: PhaseRow) -> bool
     requires { ⌜ 16 + 16 * w + 16 ≤ length (now words) ⌝ }
-    ensures { λ r. ⌜ ((a b : ℕ) → r ≡ arguments-damaged row (cells-at a b (now (words .entry))) w) ⌝ }
+    ensures { λ r. ⌜ ((a b : ℕ) → r ≡ any-of (total-tests row (cells-at a b (now (words .entry))) w)) ⌝ }
 {
     let at = HEADER_WORDS + WORKER_WORDS * w;
-    if row.operation == 1 {
-        return words[ITEMS] <= words[at + ITEM];
-    }
-    if row.operation == 2 {
-        return (words[ITEMS] <= words[at + ITEM]) | (words[PROJECTS] <= words[at + OLD]) | (words[PROJECTS] <= words[at + NEW]);
-    }
-    if row.operation == 3 {
-        return false;
-    }
-    if row.operation == 4 {
-        return (words[ITEMS] <= words[at + ITEM]) | (words[COUNTER] <= words[at + HANDLE]);
-    }
-    if (words[PROJECTS] <= words[at + PROJECT]) | (words[COUNTER] <= words[at + HANDLE]) {
+    if words[PROJECTS] <= words[at + PROJECT] {
         return true;
     }
-    if (words[ITEMS] < words[at + NOTED]) | (words[at + NOTED] < words[at + ITEM]) {
+    if words[COUNTER] <= words[at + HANDLE] {
+        return true;
+    }
+    if words[ITEMS] < words[at + NOTED] {
+        return true;
+    }
+    if words[at + NOTED] < words[at + ITEM] {
         return true;
     }
     if ((row.operation != 3) & (row.line != 0)) & (words[at + NOTED] <= words[at + ITEM]) {
         return true;
     }
     1099511627776 < sum_of(words[at + SUM_HIGH], words[at + SUM_LOW])
+}
+
+// The arguments of the operation that a record runs. Two operations share a test: of a plain list of numbers a compiler makes an indirect jump.
+fn arguments_are_damaged(words: &[u32], w: usize, row: PhaseRow) -> bool
+    requires { ⌜ 16 + 16 * w + 16 ≤ length (now words) ⌝ }
+    ensures { λ r. ⌜ ((a b : ℕ) → r ≡ arguments-damaged row (cells-at a b (now (words .entry))) w) ⌝ }
+{
+    let at = HEADER_WORDS + WORKER_WORDS * w;
+    if row.operation == 4 {
+        return (words[ITEMS] <= words[at + ITEM]) | (words[COUNTER] <= words[at + HANDLE]);
+    }
+    if (row.operation == 1) | (row.operation == 2) {
+        if words[ITEMS] <= words[at + ITEM] {
+            return true;
+        }
+        if row.operation == 2 {
+            return (words[PROJECTS] <= words[at + OLD]) | (words[PROJECTS] <= words[at + NEW]);
+        }
+        return false;
+    }
+    if row.operation == 3 {
+        return false;
+    }
+    total_is_damaged(words, w, row)
 }
 
 // What the record keeps for its lines.
@@ -113,13 +132,12 @@ fn kept_is_damaged(words: &[u32], w: usize, row: PhaseRow) -> bool
         | ((line == 6) & (words[COUNTER_LIMIT] <= words[at + SEEN]))
 }
 
-// The same, by line: for step, where it is asked at each call.
-fn kept_at_line_is_damaged(words: &[u32], w: usize, row: PhaseRow) -> bool
+// The same, by the line's number: for step, which asks it where the line is known.
+pub fn kept_at_line_is_damaged(words: &[u32], w: usize, line: u8) -> bool
     requires { ⌜ 16 + 16 * w + 16 ≤ length (now words) ⌝ }
-    ensures { λ r. ⌜ ((a b : ℕ) → r ≡ kept-damaged row (cells-at a b (now (words .entry))) w) ⌝ }
+    ensures { λ r. ⌜ ((a b : ℕ) → r ≡ kept-at line (cells-at a b (now (words .entry))) w) ⌝ }
 {
     let at = HEADER_WORDS + WORKER_WORDS * w;
-    let line = row.line;
     match line {
         20 => words[USED] <= words[at + NODE],
         21 => words[USED] <= words[at + NODE],
@@ -144,19 +162,16 @@ pub fn running_is_damaged(words: &[u32], w: usize, row: PhaseRow) -> bool
     (5120 < words[at + STEPS]) | arguments_are_damaged(words, w, row) | kept_is_damaged(words, w, row)
 }
 
-// The same test as step asks it: with branches, and called from nowhere else, so that it stands in step's own code.
-pub fn step_is_damaged(words: &[u32], w: usize, row: PhaseRow) -> bool
+// The step count and the arguments, as step asks them: with branches, and called from nowhere else, so that they stand in step's own code.
+pub fn steps_or_arguments_are_damaged(words: &[u32], w: usize, row: PhaseRow) -> bool
     requires { ⌜ 16 + 16 * w + 16 ≤ length (now words) ⌝ }
-    ensures { λ r. ⌜ ((a b : ℕ) → r ≡ running-damaged row (cells-at a b (now (words .entry))) w) ⌝ }
+    ensures { λ r. ⌜ ((a b : ℕ) → r ≡ ltb 5120 (cells-at a b (now (words .entry)) (steps w)) || arguments-damaged row (cells-at a b (now (words .entry))) w) ⌝ }
 {
     let at = HEADER_WORDS + WORKER_WORDS * w;
     if 5120 < words[at + STEPS] {
         return true;
     }
-    if arguments_are_damaged(words, w, row) {
-        return true;
-    }
-    kept_at_line_is_damaged(words, w, row)
+    arguments_are_damaged(words, w, row)
 }
 
 // A worker's record.

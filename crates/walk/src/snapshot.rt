@@ -1,15 +1,15 @@
-// Line 34: the walk to the version at a handle.
+// Line 34's walk to the version at a handle, which readSnapshot and total share.
 use definitions::Answer;
-use lines::endings::{finish, go_on, refuse};
-use tables::fields::{COUNTER, HANDLE, HEADER_WORDS, NODE, OLDER, PHASE, PROJECTS, STAMP, STEPS, USED, VALUE, WORKER_WORDS};
+use lines::endings::go_on;
+use tables::fields::{HEADER_WORDS, NODE, OLDER, PHASE, STAMP, STEPS, VALUE, WORKER_WORDS};
 use tables::nodes;
 ghost use mathlib.Core.Path.{_≡_};
 ghost use Prim.Native.Nat.{_+_, _*_, _<_};
 ghost use lib.ListN.{length};
 ghost use Rattle.definitions.specs.Cells.{cells-at};
-ghost use Rattle.definitions.specs.Lines.{line, tested-node, to-older, line-34};
+ghost use Rattle.definitions.specs.Lines.{to-older};
 ghost use Rattle.definitions.specs.Promises.{Met};
-ghost use Rattle.lines.specs.Stepped.{Steps, Ready, Has-node, Has-older, node-tested};
+ghost use Rattle.lines.specs.Stepped.{Ready, Has-node, Has-older, node-tested};
 
 // Line 34's test of a node, in the node part: its stamp, and the one word that it reads after that.
 pub fn tested_is_damaged(nodes: &[u32], n: usize, handle: u32, projects: u32, used: u32, counter: u32) -> bool
@@ -37,24 +37,4 @@ pub fn go_to_older(words: &mut [u32], items_at: usize, nodes_at: usize, w: usize
     let older = nodes::word(&words[nodes_at..], n, OLDER);
     words[at + NODE] = older - 1;
     go_on(words, w, phase, steps)
-}
-
-// Line 34 of readSnapshot: any other stamp answers the value.
-pub fn line_34(words: &mut [u32], items_at: usize, nodes_at: usize, w: usize) -> Answer
-    requires { ⌜ Ready «items_at» «nodes_at» w (now words) × Has-node w (now words) ⌝ }
-    ensures { λ r. ⌜ Steps (line tested-node line-34) «items_at» «nodes_at» w (now (words .entry)) r (now (words .exit)) ⌝ }
-{
-    let at = HEADER_WORDS + WORKER_WORDS * w;
-    let steps = words[at + STEPS];
-    let n = words[at + NODE] as usize;
-    let handle = words[at + HANDLE];
-    if tested_is_damaged(&words[nodes_at..], n, handle, words[PROJECTS], words[USED], words[COUNTER]) {
-        return refuse(2);
-    }
-    let stamp = nodes::word(&words[nodes_at..], n, STAMP);
-    if handle < stamp { // the version is too new
-        return go_to_older(words, items_at, nodes_at, w);
-    }
-    let value = nodes::word(&words[nodes_at..], n, VALUE);
-    finish(words, w, value as u64, steps)
 }

@@ -1,4 +1,4 @@
-// A total's own lines: its line 32 with the skip, its line 34, and the closing step.
+// A total's own lines, its line 32 with the skip and the closing step; and line 34, of readSnapshot and total.
 use crate::snapshot::{go_to_older, tested_is_damaged};
 use definitions::Answer;
 use lines::endings::{finish, go_on, refuse};
@@ -14,7 +14,7 @@ ghost use Prim.Native.Nat.{_+_, _*_, _<_, _≤_};
 ghost use lib.Dec.{eqb};
 ghost use lib.ListN.{length, getD};
 ghost use Rattle.definitions.specs.Answers.{running};
-ghost use Rattle.definitions.specs.Lines.{line, no-words, tested-node, total-32, total-34, closing};
+ghost use Rattle.definitions.specs.Lines.{line, no-words, tested-node, line-34, total-32, total-34, closing};
 ghost use Rattle.lines.specs.Stepped.{Steps, Ready, In-item, Has-node, moved-on, Small-sum, item-added};
 
 // A total goes on at its next item, or at its closing step.
@@ -58,26 +58,6 @@ fn sum_with(sum: u64, value: u32, project: u32, size: u32) -> u64
     sum
 }
 
-// A total's line 34: where the value at the handle is its project, the item's size is added.
-pub fn total_34(words: &mut [u32], items_at: usize, nodes_at: usize, w: usize) -> Answer
-    requires { ⌜ Ready «items_at» «nodes_at» w (now words) × In-item w (now words) × Has-node w (now words) × Small-sum w (now words) ⌝ }
-    ensures { λ r. ⌜ Steps (line tested-node total-34) «items_at» «nodes_at» w (now (words .entry)) r (now (words .exit)) ⌝ }
-{
-    let at = HEADER_WORDS + WORKER_WORDS * w;
-    let steps = words[at + STEPS];
-    let n = words[at + NODE] as usize;
-    let handle = words[at + HANDLE];
-    if tested_is_damaged(&words[nodes_at..], n, handle, words[PROJECTS], words[USED], words[COUNTER]) {
-        return refuse(2);
-    }
-    let stamp = nodes::word(&words[nodes_at..], n, STAMP);
-    if handle < stamp {
-        return go_to_older(words, items_at, nodes_at, w);
-    }
-    let value = nodes::word(&words[nodes_at..], n, VALUE);
-    add_item(words, items_at, w, value, steps)
-}
-
 // The item's part of the sum, and the way on to the next item.
 fn add_item(words: &mut [u32], items_at: usize, w: usize, value: u32, steps: u32) -> Answer
     requires { ⌜ (16 + 16 * w + 16 ≤ length (now words)) × («items_at» + 4 * getD (now words) (16 + 16 * w + 2) 0 + 4 ≤ length (now words)) × Small-sum w (now words) × (steps < 5121) × (getD (now words) (16 + 16 * w + 2) 0 < 256) ⌝ }
@@ -93,6 +73,29 @@ fn add_item(words: &mut [u32], items_at: usize, w: usize, value: u32, steps: u32
     words[at + SUM_LOW] = (sum % 4294967296) as u32;
     words[at + SUM_HIGH] = (sum / 4294967296) as u32;
     go_to_place(words, w, item + 1, noted, steps)
+}
+
+// Line 34: a stamp above the handle leads to the older node. At any other, readSnapshot answers the value, and total adds the item's size.
+pub fn line_34(words: &mut [u32], items_at: usize, nodes_at: usize, w: usize, operation: u8) -> Answer
+    requires { ⌜ Ready «items_at» «nodes_at» w (now words) × In-item w (now words) × Has-node w (now words) × (operation ≡ 5 → Small-sum w (now words)) ⌝ }
+    ensures { λ r. ⌜ Steps (cond (eqb operation 5) (line tested-node total-34) (line tested-node line-34)) «items_at» «nodes_at» w (now (words .entry)) r (now (words .exit)) ⌝ }
+{
+    let at = HEADER_WORDS + WORKER_WORDS * w;
+    let steps = words[at + STEPS];
+    let n = words[at + NODE] as usize;
+    let handle = words[at + HANDLE];
+    if tested_is_damaged(&words[nodes_at..], n, handle, words[PROJECTS], words[USED], words[COUNTER]) {
+        return refuse(2);
+    }
+    let stamp = nodes::word(&words[nodes_at..], n, STAMP);
+    if handle < stamp { // the version is too new
+        return go_to_older(words, items_at, nodes_at, w);
+    }
+    let value = nodes::word(&words[nodes_at..], n, VALUE);
+    if operation == 5 {
+        return add_item(words, items_at, w, value, steps);
+    }
+    finish(words, w, value as u64, steps)
 }
 
 // A total's closing step: the sum is answered.

@@ -8,7 +8,7 @@ use borrow.Author.Tests.{eq-eqb, ne-eqb, lt-ltb, le-ltb, le-leb, lt-leb}
 use Rattle.definitions.specs.Cells.{cells-at, cells-of, items-at, nodes-at}
 use Rattle.lines.specs.Laws.{met-if, met-else, refuses}
 use Rattle.calls.specs.Refusals.{done}
-use Rattle.calls.specs.Facts.{header-sound, item-there, known-phase, can-take-at}
+use Rattle.calls.specs.Facts.{header-sound, item-there, can-take-at}
 use Rattle.calls.specs.Dispatch.{fit, row-operation, row-snapshot, line-tied}
 use borrow.Author.Needs.{needs}
 use Rattle.calls.proofs.dispatch.run_row.Statement.{statement}
@@ -32,7 +32,7 @@ returns c = rw (ne-eqb _ _ (c .before .before .before .before .before .before .b
 
 -- src/dispatch.rt:83:5
 run-numbered-line-requires : tie.Need-run-numbered-line-requires
-run-numbered-line-requires c κs = search needs
+run-numbered-line-requires c κs = let h = c .before .before .before .before .pre in (h .0, c .before .if1 .left, h .3 (c .before .if1 .left))
 
 -- src/dispatch.rt:76:1
 same-length-2 : tie.Need-same-length-2

@@ -5,7 +5,7 @@ use lib.ListN.{getD}
 use borrow.Author.Tests.{eq-eqb, ne-eqb, le-leb, lt-leb}
 use Rattle.definitions.specs.Cells.{cells-of, items-at, nodes-at}
 use Rattle.lines.specs.Laws.{met-if, met-else, refuses}
-use Rattle.calls.specs.Dispatch.{fit, row-operation, row-snapshot, line-tied}
+use Rattle.calls.specs.Dispatch.{fit, row-operation, row-snapshot, row-other, line-tied}
 use borrow.Author.Needs.{needs}
 use Rattle.calls.proofs.step.step_busy.Statement.{statement}
 use Rattle.calls.proofs.step.step_busy.Tie as tie
@@ -66,7 +66,7 @@ returns c = rw (← c .before .before .before .before .before .before .before .p
 -- src/step.rt:46:5
 run-row-requires : tie.Need-run-row-requires
 run-row-requires c κs = let x = c .before .before .before .before .before .before .before .args in let h = c .before .before .before .before .before .before .before .pre in
-    (fit (x .words .now) (x .w) (h .0) (h .1) (h .2), row-operation (x .words .now) (x .w) (h .1) (h .2), row-snapshot (x .words .now) (x .w) (h .1) (h .2))
+    (fit (x .words .now) (x .w) (h .0) (h .1) (h .2), row-operation (x .words .now) (x .w) (h .1) (h .2), row-snapshot (x .words .now) (x .w) (h .1) (h .2), row-other (x .words .now) (x .w) (h .1) (h .2))
 
 -- src/step.rt:37:1
 same-length-2 : tie.Need-same-length-2

@@ -1,12 +1,14 @@
-use mathlib.Core.Path.{_≡_, refl, _∙_, ap, sym}
-use mathlib.Core.Bool.{true, false}
-use Prim.Native.Nat.{_+_, _*_}
-use lib.ListN.{getD}
+use mathlib.Core.Bool.{_&&_}
+use lib.Dec.{eqb}
 use borrow.Author.Tests.{eq-eqb, ne-eqb, le-leb, lt-leb}
-use Rattle.definitions.specs.Cells.{cells-of, items-at, nodes-at}
+use Rattle.definitions.specs.Cells.{cells-of, items-at, nodes-at, phase, item}
+use Rattle.definitions.specs.Phases.{row-of}
+use Rattle.definitions.specs.Damage.{inside-item, kept-damaged, worker-damaged, item-damaged}
+use Rattle.definitions.specs.Lines.{line-of-phase}
+use Rattle.lines.specs.Stepped.{stepped}
 use Rattle.lines.specs.Laws.{met-if, met-else, refuses}
 use Rattle.definitions.specs.Calls.{stepping}
-use Rattle.calls.specs.Facts.{unknown-phase, idle-sound, running-tells}
+use Rattle.calls.specs.Facts.{unknown-phase, idle-sound, early-told, early-damaged, late-damaged, made-busy, in-order}
 use borrow.Author.Needs.{needs}
 use Rattle.calls.proofs.step.step_sound.Statement.{statement}
 use Rattle.calls.proofs.step.step_sound.Tie as tie
@@ -14,7 +16,7 @@ use Rattle.calls.proofs.step.step_sound.Reads as reads
 use Rattle.calls.proofs.step.step_sound.Lts as lts
 use Rattle.calls.proofs.step.step_busy.Reads as step-busy-reads
 use Rattle.lines.proofs.endings.refuse.Reads as refuse-reads
-use Rattle.tables.proofs.damage.step_is_damaged.Reads as step-is-damaged-reads
+use Rattle.tables.proofs.damage.steps_or_arguments_are_damaged.Reads as steps-or-arguments-are-damaged-reads
 use Rattle.tables.proofs.phases.row_at.Reads as row-at-reads
 
 -- src/step.rt:54:8
@@ -79,8 +81,8 @@ row-at-requires : tie.Need-row-at-requires
 row-at-requires c κs = search needs
 
 -- src/step.rt:66:8
-step-is-damaged-requires : tie.Need-step-is-damaged-requires
-step-is-damaged-requires c κs = search needs
+steps-or-arguments-are-damaged-requires : tie.Need-steps-or-arguments-are-damaged-requires
+steps-or-arguments-are-damaged-requires c κs = search needs
 
 -- src/step.rt:67:9
 refuse-requires-4 : tie.Need-refuse-requires-4
@@ -93,15 +95,13 @@ same-length c = search needs
 -- src/step.rt:67:9
 returns-4 : tie.Need-returns-4
 unfolding stepping
-returns-4 c = let x = c .before .before .before .before .before .before .before .before .before .before .before .args in let ws = x .words .now in
-    met-else _ (lt-leb _ _ (c .before .before .before .before .before .before .before .before .if1 .left))
-    (met-if _ (running-tells (cells-of ws) (x .worker) (c .before .before .before .before .before .before .if2 .left) (c .before .before .before .before .before .if3 .left) (c .before .before .before .before .row-at .ensures) (c .before .before .step-is-damaged .ensures (items-at ws) (nodes-at ws)) (c .before .if4 .taken)) (refuses 2 (c .refuse4 .ensures)))
+returns-4 c = let x = c .before .before .before .before .before .before .before .before .before .before .before .args in let ws = x .words .now in let e = early-told (cells-of ws) (x .worker) (c .before .before .before .before .row-at .ensures) (c .before .before .steps-or-arguments-are-damaged .ensures (items-at ws) (nodes-at ws)) (c .before .if4 .taken) in
+    met-else _ (lt-leb _ _ (c .before .before .before .before .before .before .before .before .if1 .left)) (met-if _ (early-damaged (cells-of ws) (x .worker) (c .before .before .before .before .before .before .if2 .left) (c .before .before .before .before .before .if3 .left) e) (refuses 2 (c .refuse4 .ensures)))
 
 -- src/step.rt:69:5
 step-busy-requires : tie.Need-step-busy-requires
-step-busy-requires c κs = let x = c .before .before .before .before .before .before .before .before .before .before .before .args in let ws = x .words .now in
-    let sound = running-tells (cells-of ws) (x .worker) (c .before .before .before .before .before .before .if2 .left) (c .before .before .before .before .before .if3 .left) (c .before .before .before .before .row-at .ensures) (c .before .before .step-is-damaged .ensures (items-at ws) (nodes-at ws)) (c .before .if4 .left) in
-    (c .before .before .before .before .before .before .before .before .before .before .before .pre, record { there = c .before .before .before .before .before .before .before .before .if1 .left; sound = sound; runs = c .before .before .before .before .before .if3 .left; known = c .before .before .before .before .before .before .if2 .left }, c .before .before .before .before .row-at .ensures)
+step-busy-requires c κs = let x = c .before .before .before .before .before .before .before .before .before .before .before .args in let ws = x .words .now in let e = early-told (cells-of ws) (x .worker) (c .before .before .before .before .row-at .ensures) (c .before .before .steps-or-arguments-are-damaged .ensures (items-at ws) (nodes-at ws)) (c .before .if4 .left) in
+    (c .before .before .before .before .before .before .before .before .before .before .before .pre, made-busy ws (x .worker) (c .before .before .before .before .before .before .before .before .if1 .left) (c .before .before .before .before .before .if3 .left) (c .before .before .before .before .before .before .if2 .left) e, c .before .before .before .before .row-at .ensures)
 
 -- src/step.rt:50:1
 same-length-2 : tie.Need-same-length-2
@@ -110,10 +110,11 @@ same-length-2 c = search needs
 -- src/step.rt:50:1
 returns-5 : tie.Need-returns-5
 unfolding stepping
-returns-5 c = let x = c .before .before .before .before .before .before .before .before .before .before .before .before .before .before .args in let ws = x .words .now in
+returns-5 c = let x = c .before .before .before .before .before .before .before .before .before .before .before .before .before .before .args in let ws = x .words .now in let m = cells-of ws in let w = x .worker in let e = early-told (cells-of ws) (x .worker) (c .before .before .before .before .before .before .before .row-at .ensures) (c .before .before .before .before .before .steps-or-arguments-are-damaged .ensures (items-at ws) (nodes-at ws)) (c .before .before .before .before .if4 .left) in
     met-else _ (lt-leb _ _ (c .before .before .before .before .before .before .before .before .before .before .before .if1 .left))
-    (met-else _ (running-tells (cells-of ws) (x .worker) (c .before .before .before .before .before .before .before .before .before .if2 .left) (c .before .before .before .before .before .before .before .before .if3 .left) (c .before .before .before .before .before .before .before .row-at .ensures) (c .before .before .before .before .before .step-is-damaged .ensures (items-at ws) (nodes-at ws)) (c .before .before .before .before .if4 .left))
-    (met-else _ (ne-eqb _ _ (c .before .before .before .before .before .before .before .before .if3 .left)) (c .before .before .step-busy .ensures)))
+    (in-order (items-at ws) (nodes-at ws) ws (worker-damaged m w) (kept-damaged (row-of (m (phase w))) m w) (eqb (m (phase w)) 0)
+    (inside-item (row-of (m (phase w))) && item-damaged m (m (item w))) (stepped (line-of-phase (m (phase w))) m w)
+    (late-damaged m w (c .before .before .before .before .before .before .before .before .before .if2 .left) (c .before .before .before .before .before .before .before .before .if3 .left) e) (ne-eqb _ _ (c .before .before .before .before .before .before .before .before .if3 .left)) (c .before .before .step-busy .ensures))
 
 pub step-sound-spec : {M : Type 1} → statement M
 step-sound-spec =
@@ -133,7 +134,7 @@ step-sound-spec =
     returns-3
     cast-row-at
     row-at-requires
-    step-is-damaged-requires
+    steps-or-arguments-are-damaged-requires
     refuse-requires-4
     same-length
     returns-4

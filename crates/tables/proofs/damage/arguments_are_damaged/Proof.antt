@@ -1,280 +1,159 @@
-use mathlib.Core.Path.{refl}
-use borrow.Author.Tests.{eq-eqb, ne-eqb}
+use Prim.Native.Nat.{_+_, _*_}
+use lib.Dec.{eqb, leb}
+use lib.ListN.{getD}
+use mathlib.Core.Path.{_≡_, refl, sym}
+use mathlib.Core.Bool.{Bool, true, false, false≢true, cond, _||_}
+use mathlib.Core.List.{[], _∷_}
+use native.Mathlib.Omega.{arith}
+use borrow.Author.Tests.{eq-eqb, ne-eqb, le-leb, lt-leb}
 use Rattle.definitions.specs.Damage.{arguments-damaged}
+use Rattle.tables.specs.Ranges.{none-of}
 use borrow.Author.Needs.{needs}
 use Rattle.tables.proofs.damage.arguments_are_damaged.Statement.{statement}
 use Rattle.tables.proofs.damage.arguments_are_damaged.Tie as tie
 use Rattle.tables.proofs.damage.arguments_are_damaged.Reads as reads
 use Rattle.tables.proofs.damage.arguments_are_damaged.Lts as lts
-use Rattle.tables.proofs.damage.sum_of.Reads as sum-of-reads
+use Rattle.tables.proofs.damage.total_is_damaged.Reads as total-is-damaged-reads
 
--- src/damage.rt:77:29
+-- Two operations that share a test: where it holds, and which of them it is where it is not the second.
+shared : (t u a b c rest : Bool) → (t || u) ≡ true → a ≡ true → true ≡ cond t a (cond u ((a || b) || c) rest)
+shared true u a b c rest h e = sym e
+shared false true a b c rest h e = rw e refl
+shared false false a b c rest h e = absurd (false≢true h)
+
+first : (t u : Bool) → (t || u) ≡ true → u ≡ false → t ≡ true
+first true u h e = refl
+first false true h e = sym e
+first false false h e = h
+
+-- src/damage.rt:102:29
 mul-at : tie.Need-mul-at
 mul-at c = search needs
 
--- src/damage.rt:77:14
+-- src/damage.rt:102:14
 add-at : tie.Need-add-at
 add-at c = search needs
 
--- src/damage.rt:79:16
+-- src/damage.rt:104:17
 shared-slice-read-result : tie.Need-shared-slice-read-result
 shared-slice-read-result c = search needs
 
--- src/damage.rt:79:38
+-- src/damage.rt:104:39
 add-result : tie.Need-add-result
 add-result c = search needs
 
--- src/damage.rt:79:32
+-- src/damage.rt:104:33
 mul-result : tie.Need-mul-result
 mul-result c = search needs
 
--- src/damage.rt:79:32
+-- src/damage.rt:104:33
 shared-slice-read-result-2 : tie.Need-shared-slice-read-result-2
 shared-slice-read-result-2 c = search needs
 
--- src/damage.rt:79:9
-returns : tie.Need-returns
-unfolding arguments-damaged
-returns c = λ a b. simp (eq-eqb _ _ (c .before .before .if1 .taken))
-
--- src/damage.rt:82:17
+-- src/damage.rt:104:54
 shared-slice-read-result-3 : tie.Need-shared-slice-read-result-3
 shared-slice-read-result-3 c = search needs
 
--- src/damage.rt:82:39
+-- src/damage.rt:104:78
 add-result-2 : tie.Need-add-result-2
 add-result-2 c = search needs
 
--- src/damage.rt:82:33
+-- src/damage.rt:104:72
 mul-result-2 : tie.Need-mul-result-2
 mul-result-2 c = search needs
 
--- src/damage.rt:82:33
+-- src/damage.rt:104:72
 shared-slice-read-result-4 : tie.Need-shared-slice-read-result-4
 shared-slice-read-result-4 c = search needs
 
--- src/damage.rt:82:54
+-- src/damage.rt:104:9
+returns : tie.Need-returns
+unfolding arguments-damaged
+returns c = λ a b. let o = c .before .before .before .before .before .before .before .args .row .operation in let e = c .before .before .before .before .if1 .taken in
+    rw (ne-eqb o 1 (λ q. omega (arith, q, e)), ne-eqb o 2 (λ q. omega (arith, q, e)), ne-eqb o 3 (λ q. omega (arith, q, e)), eq-eqb o 4 e)
+
+-- src/damage.rt:107:12
+shared-slice-read-if3 : tie.Need-shared-slice-read-if3
+shared-slice-read-if3 c = search needs
+
+-- src/damage.rt:107:34
+add-if3 : tie.Need-add-if3
+add-if3 c = search needs
+
+-- src/damage.rt:107:28
+mul-if3 : tie.Need-mul-if3
+mul-if3 c = search needs
+
+-- src/damage.rt:107:28
+shared-slice-read-if3-2 : tie.Need-shared-slice-read-if3-2
+shared-slice-read-if3-2 c = search needs
+
+-- src/damage.rt:108:13
+returns-2 : tie.Need-returns-2
+unfolding arguments-damaged
+returns-2 c = λ a b. let x = c .before .before .before .before .before .before .before .before .before .args in let ws = x .words .now in
+    shared (eqb (x .row .operation) 1) (eqb (x .row .operation) 2) (leb (getD ws 6 0) (getD ws (16 + 16 * x .w + 2) 0)) (leb (getD ws 3 0) (getD ws (16 + 16 * x .w + 3) 0)) (leb (getD ws 3 0) (getD ws (16 + 16 * x .w + 4) 0)) _ (c .before .before .before .if2 .taken) (le-leb _ _ (c .if3 .taken))
+
+-- src/damage.rt:111:21
 shared-slice-read-result-5 : tie.Need-shared-slice-read-result-5
 shared-slice-read-result-5 c = search needs
 
--- src/damage.rt:82:79
+-- src/damage.rt:111:46
 add-result-3 : tie.Need-add-result-3
 add-result-3 c = search needs
 
--- src/damage.rt:82:73
+-- src/damage.rt:111:40
 mul-result-3 : tie.Need-mul-result-3
 mul-result-3 c = search needs
 
--- src/damage.rt:82:73
+-- src/damage.rt:111:40
 shared-slice-read-result-6 : tie.Need-shared-slice-read-result-6
 shared-slice-read-result-6 c = search needs
 
--- src/damage.rt:82:93
+-- src/damage.rt:111:60
 shared-slice-read-result-7 : tie.Need-shared-slice-read-result-7
 shared-slice-read-result-7 c = search needs
 
--- src/damage.rt:82:118
+-- src/damage.rt:111:85
 add-result-4 : tie.Need-add-result-4
 add-result-4 c = search needs
 
--- src/damage.rt:82:112
+-- src/damage.rt:111:79
 mul-result-4 : tie.Need-mul-result-4
 mul-result-4 c = search needs
 
--- src/damage.rt:82:112
+-- src/damage.rt:111:79
 shared-slice-read-result-8 : tie.Need-shared-slice-read-result-8
 shared-slice-read-result-8 c = search needs
 
--- src/damage.rt:82:9
-returns-2 : tie.Need-returns-2
-unfolding arguments-damaged
-returns-2 c = λ a b. simp (ne-eqb _ _ (c .before .before .before .before .before .before .before .before .if1 .left), eq-eqb _ _ (c .before .before .before .before .before .before .if2 .taken))
-
--- src/damage.rt:85:9
+-- src/damage.rt:111:13
 returns-3 : tie.Need-returns-3
 unfolding arguments-damaged
-returns-3 c = λ a b. simp (ne-eqb _ _ (c .before .before .before .before .if1 .left), ne-eqb _ _ (c .before .before .if2 .left), eq-eqb _ _ (c .if3 .taken))
+returns-3 c = λ a b. let o = c .before .before .before .before .before .before .before .before .before .before .before .before .before .before .before .args .row .operation in let e = c .before .before .before .before .if4 .taken in
+    rw (ne-eqb o 1 (λ q. omega (arith, q, e)), eq-eqb o 2 e, lt-leb _ _ (c .before .before .before .before .before .before .if3 .left))
 
--- src/damage.rt:88:17
-shared-slice-read-result-9 : tie.Need-shared-slice-read-result-9
-shared-slice-read-result-9 c = search needs
-
--- src/damage.rt:88:39
-add-result-5 : tie.Need-add-result-5
-add-result-5 c = search needs
-
--- src/damage.rt:88:33
-mul-result-5 : tie.Need-mul-result-5
-mul-result-5 c = search needs
-
--- src/damage.rt:88:33
-shared-slice-read-result-10 : tie.Need-shared-slice-read-result-10
-shared-slice-read-result-10 c = search needs
-
--- src/damage.rt:88:54
-shared-slice-read-result-11 : tie.Need-shared-slice-read-result-11
-shared-slice-read-result-11 c = search needs
-
--- src/damage.rt:88:78
-add-result-6 : tie.Need-add-result-6
-add-result-6 c = search needs
-
--- src/damage.rt:88:72
-mul-result-6 : tie.Need-mul-result-6
-mul-result-6 c = search needs
-
--- src/damage.rt:88:72
-shared-slice-read-result-12 : tie.Need-shared-slice-read-result-12
-shared-slice-read-result-12 c = search needs
-
--- src/damage.rt:88:9
+-- src/damage.rt:113:9
 returns-4 : tie.Need-returns-4
 unfolding arguments-damaged
-returns-4 c = λ a b. simp (ne-eqb _ _ (c .before .before .before .before .before .before .before .before .before .before .if1 .left), ne-eqb _ _ (c .before .before .before .before .before .before .before .before .if2 .left), ne-eqb _ _ (c .before .before .before .before .before .before .if3 .left), eq-eqb _ _ (c .before .before .before .before .if4 .taken))
+returns-4 c = λ a b. let o = c .before .before .before .before .before .before .before .before .before .before .before .args .row .operation in
+    rw (first (eqb o 1) (eqb o 2) (c .before .before .before .before .before .if2 .taken) (ne-eqb o 2 (c .if4 .left)), lt-leb _ _ (c .before .before .if3 .left))
 
--- src/damage.rt:90:9
-shared-slice-read-if5 : tie.Need-shared-slice-read-if5
-shared-slice-read-if5 c = search needs
-
--- src/damage.rt:90:34
-add-if5 : tie.Need-add-if5
-add-if5 c = search needs
-
--- src/damage.rt:90:28
-mul-if5 : tie.Need-mul-if5
-mul-if5 c = search needs
-
--- src/damage.rt:90:28
-shared-slice-read-if5-2 : tie.Need-shared-slice-read-if5-2
-shared-slice-read-if5-2 c = search needs
-
--- src/damage.rt:90:52
-shared-slice-read-if5-3 : tie.Need-shared-slice-read-if5-3
-shared-slice-read-if5-3 c = search needs
-
--- src/damage.rt:90:76
-add-if5-2 : tie.Need-add-if5-2
-add-if5-2 c = search needs
-
--- src/damage.rt:90:70
-mul-if5-2 : tie.Need-mul-if5-2
-mul-if5-2 c = search needs
-
--- src/damage.rt:90:70
-shared-slice-read-if5-4 : tie.Need-shared-slice-read-if5-4
-shared-slice-read-if5-4 c = search needs
-
--- src/damage.rt:91:9
+-- src/damage.rt:116:9
 returns-5 : tie.Need-returns-5
 unfolding arguments-damaged
-returns-5 c = λ a b. rw (ne-eqb _ _ (c .before .before .before .before .before .before .before .before .before .before .before .if1 .left), ne-eqb _ _ (c .before .before .before .before .before .before .before .before .before .if2 .left), ne-eqb _ _ (c .before .before .before .before .before .before .before .if3 .left), ne-eqb _ _ (c .before .before .before .before .before .if4 .left), c .if5 .taken)
+returns-5 c = λ a b. let x = c .before .before .before .before .before .before .before .before .args in let h = none-of (eqb (x .row .operation) 1 ∷ eqb (x .row .operation) 2 ∷ []) in
+    rw (h 0 (c .before .before .if2 .left), h 1 (c .before .before .if2 .left), eq-eqb _ _ (c .if5 .taken))
 
--- src/damage.rt:93:9
-shared-slice-read-if6 : tie.Need-shared-slice-read-if6
-shared-slice-read-if6 c = search needs
+-- src/damage.rt:118:5
+total-is-damaged-requires : tie.Need-total-is-damaged-requires
+total-is-damaged-requires c κs = search needs
 
--- src/damage.rt:93:30
-add-if6 : tie.Need-add-if6
-add-if6 c = search needs
-
--- src/damage.rt:93:24
-mul-if6 : tie.Need-mul-if6
-mul-if6 c = search needs
-
--- src/damage.rt:93:24
-shared-slice-read-if6-2 : tie.Need-shared-slice-read-if6-2
-shared-slice-read-if6-2 c = search needs
-
--- src/damage.rt:93:52
-add-if6-2 : tie.Need-add-if6-2
-add-if6-2 c = search needs
-
--- src/damage.rt:93:46
-mul-if6-2 : tie.Need-mul-if6-2
-mul-if6-2 c = search needs
-
--- src/damage.rt:93:46
-shared-slice-read-if6-3 : tie.Need-shared-slice-read-if6-3
-shared-slice-read-if6-3 c = search needs
-
--- src/damage.rt:93:72
-add-if6-3 : tie.Need-add-if6-3
-add-if6-3 c = search needs
-
--- src/damage.rt:93:66
-mul-if6-3 : tie.Need-mul-if6-3
-mul-if6-3 c = search needs
-
--- src/damage.rt:93:66
-shared-slice-read-if6-4 : tie.Need-shared-slice-read-if6-4
-shared-slice-read-if6-4 c = search needs
-
--- src/damage.rt:94:9
+-- src/damage.rt:98:1
 returns-6 : tie.Need-returns-6
 unfolding arguments-damaged
-returns-6 c = λ a b. rw (ne-eqb _ _ (c .before .before .before .before .before .before .before .before .before .before .before .before .before .before .before .before .if1 .left), ne-eqb _ _ (c .before .before .before .before .before .before .before .before .before .before .before .before .before .before .if2 .left), ne-eqb _ _ (c .before .before .before .before .before .before .before .before .before .before .before .before .if3 .left), ne-eqb _ _ (c .before .before .before .before .before .before .before .before .before .before .if4 .left), c .before .before .before .before .before .if5 .left, c .if6 .taken)
-
--- src/damage.rt:96:58
-add-if7 : tie.Need-add-if7
-add-if7 c = search needs
-
--- src/damage.rt:96:52
-mul-if7 : tie.Need-mul-if7
-mul-if7 c = search needs
-
--- src/damage.rt:96:52
-shared-slice-read-if7 : tie.Need-shared-slice-read-if7
-shared-slice-read-if7 c = search needs
-
--- src/damage.rt:96:79
-add-if7-2 : tie.Need-add-if7-2
-add-if7-2 c = search needs
-
--- src/damage.rt:96:73
-mul-if7-2 : tie.Need-mul-if7-2
-mul-if7-2 c = search needs
-
--- src/damage.rt:96:73
-shared-slice-read-if7-2 : tie.Need-shared-slice-read-if7-2
-shared-slice-read-if7-2 c = search needs
-
--- src/damage.rt:97:9
-returns-7 : tie.Need-returns-7
-unfolding arguments-damaged
-returns-7 c = λ a b. rw (c .if7 .taken, ne-eqb _ _ (c .before .before .before .before .before .before .before .before .before .before .before .before .before .before .before .before .before .before .before .before .before .if1 .left), ne-eqb _ _ (c .before .before .before .before .before .before .before .before .before .before .before .before .before .before .before .before .before .before .before .if2 .left), ne-eqb _ _ (c .before .before .before .before .before .before .before .before .before .before .before .before .before .before .before .before .before .if3 .left), ne-eqb _ _ (c .before .before .before .before .before .before .before .before .before .before .before .before .before .before .before .if4 .left), c .before .before .before .before .before .before .before .before .before .before .if5 .left, c .before .before .before .before .before .if6 .left)
-
--- src/damage.rt:99:34
-add-sum-of : tie.Need-add-sum-of
-add-sum-of c = search needs
-
--- src/damage.rt:99:28
-mul-sum-of : tie.Need-mul-sum-of
-mul-sum-of c = search needs
-
--- src/damage.rt:99:28
-shared-slice-read-sum-of : tie.Need-shared-slice-read-sum-of
-shared-slice-read-sum-of c = search needs
-
--- src/damage.rt:99:56
-add-sum-of-2 : tie.Need-add-sum-of-2
-add-sum-of-2 c = search needs
-
--- src/damage.rt:99:50
-mul-sum-of-2 : tie.Need-mul-sum-of-2
-mul-sum-of-2 c = search needs
-
--- src/damage.rt:99:50
-shared-slice-read-sum-of-2 : tie.Need-shared-slice-read-sum-of-2
-shared-slice-read-sum-of-2 c = search needs
-
--- src/damage.rt:99:21
-sum-of-requires : tie.Need-sum-of-requires
-sum-of-requires c κs = search needs
-
--- src/damage.rt:73:1
-returns-8 : tie.Need-returns-8
-unfolding arguments-damaged
-returns-8 c = λ a b. rw (c .before .before .before .if7 .left, ne-eqb _ _ (c .before .before .before .before .before .before .before .before .before .before .before .before .before .before .before .before .before .before .before .before .before .before .before .before .if1 .left), ne-eqb _ _ (c .before .before .before .before .before .before .before .before .before .before .before .before .before .before .before .before .before .before .before .before .before .before .if2 .left), ne-eqb _ _ (c .before .before .before .before .before .before .before .before .before .before .before .before .before .before .before .before .before .before .before .before .if3 .left), ne-eqb _ _ (c .before .before .before .before .before .before .before .before .before .before .before .before .before .before .before .before .before .before .if4 .left), c .before .before .before .before .before .before .before .before .before .before .before .before .before .if5 .left, c .before .before .before .before .before .before .before .before .if6 .left, c .sum-of .ensures)
+returns-6 c = λ a b. let o = c .before .before .before .before .before .before .before .before .before .args .row .operation in let h = none-of (eqb o 1 ∷ eqb o 2 ∷ []) in
+    let three = ne-eqb o 3 (c .before .if5 .left) in
+    rw (h 0 (c .before .before .before .if2 .left), h 1 (c .before .before .before .if2 .left), three, ne-eqb o 4 (c .before .before .before .before .before .before .if1 .left)) (rw three at (c .total-is-damaged .ensures a b))
 
 pub arguments-are-damaged-spec : {M : Type 1} → statement M
 arguments-are-damaged-spec =
@@ -286,11 +165,16 @@ arguments-are-damaged-spec =
     add-result
     mul-result
     shared-slice-read-result-2
-    returns
     shared-slice-read-result-3
     add-result-2
     mul-result-2
     shared-slice-read-result-4
+    returns
+    shared-slice-read-if3
+    add-if3
+    mul-if3
+    shared-slice-read-if3-2
+    returns-2
     shared-slice-read-result-5
     add-result-3
     mul-result-3
@@ -299,49 +183,8 @@ arguments-are-damaged-spec =
     add-result-4
     mul-result-4
     shared-slice-read-result-8
-    returns-2
     returns-3
-    shared-slice-read-result-9
-    add-result-5
-    mul-result-5
-    shared-slice-read-result-10
-    shared-slice-read-result-11
-    add-result-6
-    mul-result-6
-    shared-slice-read-result-12
     returns-4
-    shared-slice-read-if5
-    add-if5
-    mul-if5
-    shared-slice-read-if5-2
-    shared-slice-read-if5-3
-    add-if5-2
-    mul-if5-2
-    shared-slice-read-if5-4
     returns-5
-    shared-slice-read-if6
-    add-if6
-    mul-if6
-    shared-slice-read-if6-2
-    add-if6-2
-    mul-if6-2
-    shared-slice-read-if6-3
-    add-if6-3
-    mul-if6-3
-    shared-slice-read-if6-4
-    returns-6
-    add-if7
-    mul-if7
-    shared-slice-read-if7
-    add-if7-2
-    mul-if7-2
-    shared-slice-read-if7-2
-    returns-7
-    add-sum-of
-    mul-sum-of
-    shared-slice-read-sum-of
-    add-sum-of-2
-    mul-sum-of-2
-    shared-slice-read-sum-of-2
-    sum-of-requires
-    returns-8)
+    total-is-damaged-requires
+    returns-6)

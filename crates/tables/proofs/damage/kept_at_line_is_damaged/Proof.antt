@@ -4,7 +4,7 @@ use lib.ListN.{getD}
 use mathlib.Core.Path.{_≡_, refl}
 use mathlib.Core.Bool.{Bool, true, false, _||_}
 use borrow.Author.Tests.{ne-eqb}
-use Rattle.definitions.specs.Damage.{kept-damaged}
+use Rattle.tables.specs.Ranges.{kept-at}
 use borrow.Author.Needs.{needs}
 use Rattle.tables.proofs.damage.kept_at_line_is_damaged.Statement.{statement}
 use Rattle.tables.proofs.damage.kept_at_line_is_damaged.Tie as tie
@@ -231,70 +231,70 @@ shared-slice-read-result-24 c = search needs
 
 -- src/damage.rt:99:1
 returns : tie.Need-returns
-unfolding kept-damaged
+unfolding kept-at
 returns c = λ a b. rw (c .before .before .match .keys1) (first _)
 
 -- src/damage.rt:99:1
 returns-2 : tie.Need-returns-2
-unfolding kept-damaged
+unfolding kept-at
 returns-2 c = λ a b. rw (c .before .before .match .keys2) (first _)
 
 -- src/damage.rt:99:1
 returns-3 : tie.Need-returns-3
-unfolding kept-damaged
+unfolding kept-at
 returns-3 c = λ a b. let x = c .before .before .before .before .before .args in let ws = x .words .now in
     rw (c .before .before .before .before .match .keys3) (first-and-third (leb (getD ws 7 0) (getD ws (16 + 16 * x .w + 8) 0)) (ltb (getD ws 5 0) (getD ws (16 + 16 * x .w + 10) 0)))
 
 -- src/damage.rt:99:1
 returns-4 : tie.Need-returns-4
-unfolding kept-damaged
+unfolding kept-at
 returns-4 c = λ a b. rw (c .before .before .match .keys4) (first _)
 
 -- src/damage.rt:99:1
 returns-5 : tie.Need-returns-5
-unfolding kept-damaged
+unfolding kept-at
 returns-5 c = λ a b. rw (c .before .before .match .keys5) (first _)
 
 -- src/damage.rt:99:1
 returns-6 : tie.Need-returns-6
-unfolding kept-damaged
+unfolding kept-at
 returns-6 c = λ a b. rw (c .before .before .match .keys6) (first _)
 
 -- src/damage.rt:99:1
 returns-7 : tie.Need-returns-7
-unfolding kept-damaged
+unfolding kept-at
 returns-7 c = λ a b. rw (c .before .before .match .keys7) (first _)
 
 -- src/damage.rt:99:1
 returns-8 : tie.Need-returns-8
-unfolding kept-damaged
+unfolding kept-at
 returns-8 c = λ a b. let x = c .before .before .before .before .before .args in let ws = x .words .now in
     rw (c .before .before .before .before .match .keys8) (first-and-second (leb (getD ws 7 0) (getD ws (16 + 16 * x .w + 8) 0)) (leb (getD ws 7 0) (getD ws (16 + 16 * x .w + 9) 0)))
 
 -- src/damage.rt:99:1
 returns-9 : tie.Need-returns-9
-unfolding kept-damaged
+unfolding kept-at
 returns-9 c = λ a b. rw (c .before .before .match .keys9) (second _)
 
 -- src/damage.rt:99:1
 returns-10 : tie.Need-returns-10
-unfolding kept-damaged
+unfolding kept-at
 returns-10 c = λ a b. rw (c .before .before .match .keys10) (refl)
 
 -- src/damage.rt:99:1
 returns-11 : tie.Need-returns-11
-unfolding kept-damaged
+unfolding kept-at
 returns-11 c = λ a b. let x = c .before .args in let h = c .match .rest in
-    rw (ne-eqb (x .row .line) 6 (h .1),
-    ne-eqb (x .row .line) 50 (h .0 .1),
-    ne-eqb (x .row .line) 46 (h .0 .0 .1),
-    ne-eqb (x .row .line) 45 (h .0 .0 .0 .1),
-    ne-eqb (x .row .line) 43 (h .0 .0 .0 .0 .1),
-    ne-eqb (x .row .line) 39 (h .0 .0 .0 .0 .0 .1),
-    ne-eqb (x .row .line) 34 (h .0 .0 .0 .0 .0 .0 .1),
-    ne-eqb (x .row .line) 22 (h .0 .0 .0 .0 .0 .0 .0 .1),
-    ne-eqb (x .row .line) 21 (h .0 .0 .0 .0 .0 .0 .0 .0 .1),
-    ne-eqb (x .row .line) 20 (h .0 .0 .0 .0 .0 .0 .0 .0 .0 .1)) refl
+    rw (ne-eqb (x .line) 6 (h .1),
+    ne-eqb (x .line) 50 (h .0 .1),
+    ne-eqb (x .line) 46 (h .0 .0 .1),
+    ne-eqb (x .line) 45 (h .0 .0 .0 .1),
+    ne-eqb (x .line) 43 (h .0 .0 .0 .0 .1),
+    ne-eqb (x .line) 39 (h .0 .0 .0 .0 .0 .1),
+    ne-eqb (x .line) 34 (h .0 .0 .0 .0 .0 .0 .1),
+    ne-eqb (x .line) 22 (h .0 .0 .0 .0 .0 .0 .0 .1),
+    ne-eqb (x .line) 21 (h .0 .0 .0 .0 .0 .0 .0 .0 .1),
+    ne-eqb (x .line) 20 (h .0 .0 .0 .0 .0 .0 .0 .0 .0 .1)) refl
 
 pub kept-at-line-is-damaged-spec : {M : Type 1} → statement M
 kept-at-line-is-damaged-spec =
