@@ -6,7 +6,6 @@ use mathlib.Core.Bool.{cond}
 use mathlib.Core.List.{List, [], _∷_}
 use Prim.Native.Nat.{ℕ, zero, suc, _+_}
 use lib.Dec.{eqb}
-use Rattle.history.specs.Tools.{put}
 
 -- An operation with its arguments. A register has the number of its item, the value and the size.
 pub data Operation : Type 0 where
@@ -27,6 +26,10 @@ pub record Object : Type 0 where
   pub items : ℕ
   pub value : ℕ → ℕ
   pub size : ℕ → ℕ
+
+-- f, but v at k
+unfoldable pub put {ℓ} : {A : Type ℓ} → (ℕ → A) → ℕ → A → ℕ → A
+put f k v n = cond (eqb n k) v (f n)
 
 abbrev pub with-value : Object → (i v : ℕ) → Object
 with-value x i v = record { items = x .items; value = put (x .value) i v; size = x .size }

@@ -5,7 +5,7 @@ use mathlib.Core.List.{List, [], _∷_}
 use Prim.Native.Nat.{ℕ}
 use lib.Dec.{ltb, eqb}
 use lib.ListN.{length}
-use Rattle.history.specs.Notes.{fetches, publishes, stamps, moves, nothing, Note, refused, registered, started, stepped, ledger, Effect,
+use Rattle.history.specs.Notes.{fetches, finds, publishes, stamps, moves, nothing, Note, refused, registered, started, stepped, ledger, Effect,
     birth, change, snapshot, time}
 
 -- into its place by time
@@ -20,6 +20,7 @@ last-published i (refused ∷ past) = last-published i past
 last-published i (registered k v s ∷ past) = cond (eqb i k) (length past) (last-published i past)
 last-published i (started w op ∷ past) = last-published i past
 last-published i (stepped w line (fetches k b) e ∷ past) = last-published i past
+last-published i (stepped w line (finds b) e ∷ past) = last-published i past
 last-published i (stepped w line (publishes k v) e ∷ past) = cond (eqb i k) (length past) (last-published i past)
 last-published i (stepped w line (stamps k v) e ∷ past) = last-published i past
 last-published i (stepped w line (moves h) e ∷ past) = last-published i past
@@ -36,6 +37,7 @@ effects (refused ∷ past) = effects past
 effects (registered i v s ∷ past) = insert (birth (length past) i v s) (effects past)
 effects (started w op ∷ past) = effects past
 effects (stepped w line (fetches i b) e ∷ past) = effects past
+effects (stepped w line (finds b) e ∷ past) = effects past
 effects (stepped w line (publishes i v) e ∷ past) = effects past
 effects (stepped w line (stamps i v) e ∷ past) = insert (change (last-step w past) i v (last-published i past)) (effects past)
 effects (stepped w line (moves h) e ∷ past) = insert (snapshot (length past) h) (effects past)

@@ -20,7 +20,7 @@ use Rattle.history.specs.TraceRun.{traced}
 use Rattle.history.specs.Moments.{BornBy, Moments, moments}
 use Rattle.history.specs.Instants.{stamped-first, change-stamped}
 use Rattle.history.specs.Immediately.{noted-one, same-event, other-line, not-registered, same-change}
-use Rattle.history.specs.EffectsRight.{version-effect, snapshot-effect, IsEffect, of-version, of-counter}
+use Rattle.history.specs.EffectsRight.{effect-tag, effect-item, version-effect, snapshot-effect, IsEffect, of-version, of-counter}
 use Rattle.history.specs.EffectLaws.{birth-among, snapshot-among}
 use Rattle.history.specs.EffectsRun.{Effected, effected}
 
@@ -167,6 +167,15 @@ module _ (s : Catalogue) (invariant : Invariant s) (run : List Note) (trace : Tr
     change-there : In (change t i v p) (effects run)
     change-there = subst (λ (x : Effect). In x (effects run)) same (listed .memory .versions i (suc j) good)
 
+  -- the counter leaves each handle once
+  left-once : (h t t' : ℕ) → IsEffect (s .memory) (snapshot t h) → IsEffect (s .memory) (snapshot t' h) → t ≡ t'
+  left-once h t t' a b = left-then t a ∙ sym (left-then t' b)
+    where
+      left-then : (t : ℕ) → IsEffect (s .memory) (snapshot t h) → t ≡ s .memory .camera .left-at h
+      left-then t (of-counter h' p e) = ap time e ∙ ap (s .memory .camera .left-at) (sym (ap effect-item e))
+      left-then t (of-version i zero p e) = absurd (omega (arith, ap effect-tag e))
+      left-then t (of-version i (suc j) p e) = absurd (omega (arith, ap effect-tag e))
+
   all-told : (x : Effect) → TellsOf run x → In x (effects run)
   all-told (birth t i v z) (past, n, e) = subst (λ (t : ℕ). In (birth t i v z) (effects run)) e (birth-among i v z past run n)
   all-told (snapshot t h) (o, e) = subst (λ (t : ℕ). In (snapshot t h) (effects run)) (e .at)
@@ -194,6 +203,12 @@ module _ (limits : Limits) (cs : List Call) where
   apart = times-once (effects (machine-notes limits cs)) (effected limits cs .memory .once)
       (λ x y a b. one-at-a-time (after-calls limits cs) (run-right limits cs) (machine-notes limits cs) (traced limits cs) (moments limits cs)
         (effected limits cs) x y (effected limits cs .memory .only x a) (effected limits cs .memory .only y b))
+
+  pub leaves-once : (h t t' : ℕ) → In (snapshot t h) (effects (machine-notes limits cs)) → In (snapshot t' h) (effects (machine-notes limits cs)) →
+      t ≡ t'
+  leaves-once h t t' a b =
+      left-once (after-calls limits cs) (run-right limits cs) (machine-notes limits cs) (traced limits cs) (moments limits cs) (effected limits cs)
+        h t t' (effected limits cs .memory .only (snapshot t h) a) (effected limits cs .memory .only (snapshot t' h) b)
 
   pub exactly : (x : Effect) → In x (effects (machine-notes limits cs)) ↔ TellsOf (machine-notes limits cs) x
   exactly x =

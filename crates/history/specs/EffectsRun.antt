@@ -9,7 +9,7 @@ use lib.ListN.{length}
 use Rattle.definitions.specs.Calls.{Call}
 use Rattle.history.specs.Tools.{put, put-all, put-same, put-other, by-eq, Split, split, Same, eq, ne, same?}
 use Rattle.history.specs.Notes.{Deed, Note, ledger, Effect, birth, change, snapshot, object-at, changes-between}
-use Rattle.history.specs.Effects.{insert, last-step, last-published, effects}
+use Rattle.history.specs.Effects.{insert, last-published, effects}
 use Rattle.history.specs.Notes as Notes
 use Rattle.history.specs.Machine.{Item, Memory, Limits, found, node-to-take, Operation, take-snapshot, Phase, line-number, nothing, counts,
     publishes, stamps, takes-node, gives-back, Comes, line, memory-after, published, stamped, newborn, Worker, busy, Catalogue, affect, tick, begun,
@@ -43,6 +43,7 @@ pub record Effected (s : Catalogue) (run : List Note) : Type 0 where
 silent-effect : (run : List Note) (w k : ℕ) (d : Deed) (e : Notes.Ending) → deed-tag d ≤ 1 → effects (Notes.stepped w k d e ∷ run) ≡ effects run
 unfolding effects
 silent-effect run w k (Notes.fetches i b) e p = refl
+silent-effect run w k (Notes.finds b) e p = refl
 silent-effect run w k (Notes.publishes i v) e p = absurd (omega arith)
 silent-effect run w k (Notes.stamps i v) e p = absurd (omega arith)
 silent-effect run w k (Notes.moves h) e p = absurd (omega arith)
@@ -53,6 +54,7 @@ not-two : (run : List Note) (w k : ℕ) (d : Deed) (e : Notes.Ending) (i : ℕ) 
     last-published i (Notes.stepped w k d e ∷ run) ≡ last-published i run
 unfolding last-published
 not-two run w k (Notes.fetches n b) e i p = refl
+not-two run w k (Notes.finds b) e i p = refl
 not-two run w k (Notes.publishes n v) e i p = absurd (p refl)
 not-two run w k (Notes.stamps n v) e i p = refl
 not-two run w k (Notes.moves h) e i p = refl
@@ -164,15 +166,18 @@ module _ (s : Catalogue) (invariant : Invariant s) (run : List Note) (A : Agrees
         new : put (s .memory .item) i it i ≡ it
         new = put-same (s .memory .item) i it i refl
         x : Effect
-        x = change (last-step w run) i (s .memory .item i .value j) (last-published i run)
-        stamped-now : effects (Notes.stepped w k (Notes.stamps i (s .memory .item i .value j)) end ∷ run) ≡ insert x (effects run)
-        stamped-now = unfold effects in refl
+        x = change r i (s .memory .item i .value j) (s .memory .item i .published-at j)
         there : Split i (s .memory .items) → i < s .memory .items
         there (Split.less b) = b
         there (Split.more b) = absurd (omega (arith, a .head, invariant .kept .memory .unregistered i b))
         published-then : last-published i run ≡ s .memory .item i .published-at j
         published-then = let z : pred (s .memory .item i .versions) ≡ j = omega (arith, a .head) in E .newest i (there (split i (s .memory .items)))
             ∙ ap (s .memory .item i .published-at) z
+        -- the change took effect at the line 21 of that worker, at r
+        stamped-now : effects (Notes.stepped w k (Notes.stamps i (s .memory .item i .value j)) end ∷ run) ≡ insert x (effects run)
+        stamped-now = unfold effects in
+            ap₂ (λ (t p : ℕ). insert (change t i (s .memory .item i .value j) p) (effects run))
+              (ap (λ (o : ℕ). ledger run .fate o .at) z ∙ last-is run o r (q .2)) published-then
         unstamped : IsEffect (s .memory) x → ⊥
         unstamped (of-counter h p q) = let z : _≡_ {A = ℕ} 1 2 = ap effect-tag q in omega arith
         unstamped (of-version n zero p q) = let z : _≡_ {A = ℕ} 1 0 = ap effect-tag q in omega arith
@@ -180,7 +185,6 @@ module _ (s : Catalogue) (invariant : Invariant s) (run : List Note) (A : Agrees
             let u : i ≡ n = ap effect-item q in
             let p' : suc j' < s .memory .item i .valid = subst (λ (n : ℕ). suc j' < s .memory .item n .valid) (sym u) p in
             omega (arith, published-rises (invariant .kept .memory) i (suc j') j (omega (arith, a .undecided)) (omega (arith, a .head)),
-                published-then,
               ap effect-published q, ap (λ (n : ℕ). s .memory .item n .published-at (suc j')) u)
         positive : j ≡ 0 → ⊥
         positive e = omega (arith, a .head, a .undecided, invariant .kept .memory .item i .first (omega (arith, a .head)))
@@ -192,12 +196,9 @@ module _ (s : Catalogue) (invariant : Invariant s) (run : List Note) (A : Agrees
         is : (j' : ℕ) → j ≡ j' → x ≡ version-effect it i j
         is zero e = absurd (omega (arith, a .head, a .undecided, invariant .kept .memory .item i .first (omega (arith, a .head))))
         is (suc j') e =
-            subst (λ (n : ℕ). change (last-step w run) i (s .memory .item i .value j) (last-published i run) ≡ version-effect it i n) (sym e)
-              (ap (λ (t : ℕ). change t i (s .memory .item i .value j) (last-published i run))
-                  (ap (λ (o : ℕ). ledger run .fate o .at) z ∙ last-is run o r (q .2) ∙ sym
-                    (put-same (s .memory .item i .effect-at) j r (suc j') (sym e)))
-                ∙ ap₂ (λ (v b : ℕ). change (it .effect-at (suc j')) i v b) (ap (s .memory .item i .value) e)
-                  (published-then ∙ ap (s .memory .item i .published-at) e))
+            subst (λ (n : ℕ). x ≡ version-effect it i n) (sym e)
+              (ap₂ (λ (t n : ℕ). change t i (s .memory .item i .value n) (s .memory .item i .published-at n))
+                (sym (put-same (s .memory .item i .effect-at) j r (suc j') (sym e))) e)
 
     -- the newest version of each item
     step-newest : (e : Machine.Effect) (d : Deed) → Allowed (s .now) o op p (s .memory) e → Matches (s .memory) run o e k d → (i : ℕ) →

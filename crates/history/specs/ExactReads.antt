@@ -14,7 +14,8 @@ use Rattle.history.specs.Definition1.{Operation, read-snapshot}
 use Rattle.history.specs.Notes.{Note, ledger, Effect, time, object-at, changes-between}
 use Rattle.history.specs.Effects.{effects}
 use Rattle.history.specs.Notes as Notes
-use Rattle.history.specs.Statements.{read-lines, ExactRead}
+use Rattle.history.specs.NoteParts.{ending-tag}
+use Rattle.history.specs.Statements.{found-by, read-lines, ExactRead}
 use Rattle.history.specs.Machine.{Item, Limits, Place, Catalogue, after-calls}
 use Rattle.history.specs.Facts.{Sees, Read}
 use Rattle.history.specs.Places.{ObserverRight, PlaceRight, Invariant}
@@ -23,6 +24,7 @@ use Rattle.history.specs.OrderList.{effects-rise}
 use Rattle.history.specs.NodeCount.{sum-to}
 use Rattle.history.specs.StepCount.{length-read}
 use Rattle.history.specs.MachineNotes.{machine-notes}
+use Rattle.history.specs.Helps.{found-read}
 use Rattle.history.specs.LedgerRight.{is-answer, Agrees, agrees}
 use Rattle.history.specs.Trace.{ReadTraced, EndTraced, Traced}
 use Rattle.history.specs.TraceRun.{traced}
@@ -30,6 +32,7 @@ use Rattle.history.specs.Instants.{published-rises}
 use Rattle.history.specs.EffectList.{Gives, value-is}
 use Rattle.history.specs.EffectsRight.{version-effect, IsEffect, of-version, of-counter, counted}
 use Rattle.history.specs.EffectsRun.{Effected, effected}
+use Rattle.history.specs.BornItems.{born-then}
 
 -- ---- counting a window: ones from j + 1 to top, and zeros elsewhere
 
@@ -179,11 +182,15 @@ module _ (s : Catalogue) (invariant : Invariant s) (run : List Note) (E : Effect
   exact A T' o i h x w e =
       record {
         left = s .memory .camera .left-at h; taken = E .memory .snapshots h (R .read .gone);
+        born = born-then s invariant run E i (s .memory .camera .left-at h) (R .j) (R .read .sees);
         answer = sym (is-answer (A .fate o) x e) ∙ O .is ∙ R .value ∙ sym (value-seen i (s .memory .camera .left-at h) (R .j) (R .read .sees));
         f = R .read .f; fetched = (R .fetched .valid, R .fetched .executed);
         k = R .read .passed; counted = sym (passed-is i h o _ (R .j) (s .fate o .lines) (R .read)); tbd = R .read .tbd; lines = lines;
+        found = A .helps o (λ z. not-on (sym z ∙ e)) ∙ ap (found-by 0) lines ∙ found-read (R .read .tbd) (R .read .passed);
         steps = ap length lines ∙ length-read (R .read .tbd) (R .read .passed) }
     where
+      not-on : Notes.goes-on ≡ Notes.answers x → ⊥
+      not-on z = let y : _≡_ {A = ℕ} 0 1 = ap ending-tag z in omega arith
       done : s .fate o .done ≡ true
       done = A .fate o .answered x e
       R : ReadTraced (s .memory) run o i h (s .fate o .lines) (s .place o)

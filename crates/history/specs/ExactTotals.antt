@@ -1,15 +1,14 @@
 -- Totals for the notes of every run of the machine of versions: the sum over all items when the counter left the handle, and its lines item by item.
 use mathlib.Core.Path.{_≡_, refl, ap, sym, _∙_, subst}
 use mathlib.Core.Logic.{_≢_}
-use mathlib.Core.Bool.{Bool, true, false, cond, true≢false}
+use mathlib.Core.Bool.{true, true≢false}
 use mathlib.Core.List.{List, _++_}
-use Prim.Native.Nat.{ℕ, zero, suc, _+_, _≤_, _<_}
+use Prim.Native.Nat.{ℕ, zero, suc, _≤_, _<_}
 use native.Mathlib.Omega.{arith}
-use lib.Dec.{leb}
 use lib.ListN.{length}
 use Rattle.definitions.specs.Calls.{Call}
-use Rattle.history.specs.Tools.{by-le, Split, split, Same, eq, ne, same?}
-use Rattle.history.specs.Definition1.{Operation, register, total, apply, empty}
+use Rattle.history.specs.Tools.{Split, split}
+use Rattle.history.specs.Definition1.{Operation, total}
 use Rattle.history.specs.Notes.{Note, ledger, Effect, object-at, changes-between}
 use Rattle.history.specs.Effects.{effects}
 use Rattle.history.specs.Notes as Notes
@@ -20,65 +19,19 @@ use Rattle.history.specs.Places.{ObserverRight, PlaceRight, Invariant}
 use Rattle.history.specs.Run.{run-right}
 use Rattle.history.specs.OrderList.{Shot}
 use Rattle.history.specs.OrderShown.{operation-tag, asked-tag, change-operation, total-seen}
-use Rattle.history.specs.NodeCount.{sum-to, tally, limits-kept}
+use Rattle.history.specs.NodeCount.{tally, limits-kept}
 use Rattle.history.specs.StepCount.{total-bound}
 use Rattle.history.specs.MachineNotes.{machine-notes}
 use Rattle.history.specs.LedgerRight.{is-answer, Agrees, agrees}
+use Rattle.history.specs.BornItems.{known-items, born-then}
 use Rattle.history.specs.ExactReads.{value-seen, passed-is}
 use Rattle.history.specs.EffectList.{Sized, size-is}
-use Rattle.history.specs.EffectsRight.{version-effect, IsEffect, of-version, of-counter, born-by}
+use Rattle.history.specs.EffectsRight.{version-effect, IsEffect, of-version, of-counter}
 use Rattle.history.specs.EffectsRun.{Effected, effected}
 use Rattle.history.specs.TotalTrace.{TotalTrace, none, skips, reads, TotalEnd, EndTotal}
 use Rattle.history.specs.TotalRun.{total-run}
 
--- how many of rising numbers are up to τ: the first so many
-risen : (b : ℕ → ℕ) (τ n : ℕ) (g : ℕ → ℕ) → ((i : ℕ) → g i ≡ cond (leb (b i) τ) 1 0) → ((i j : ℕ) → i < j → j < n → b i ≤ b j) →
-    (sum-to g n ≤ n) × ((i : ℕ) → i < sum-to g n → b i ≤ τ) × ((i : ℕ) → sum-to g n ≤ i → i < n → τ < b i)
-unfolding sum-to
-risen b τ zero g e up = (omega arith, λ i p. absurd (omega arith), λ i p q. absurd (omega arith))
-risen b τ (suc n) g e up = at (risen b τ n g e (λ i j p q. up i j p (omega arith)))
-  where
-    at : (sum-to g n ≤ n) × ((i : ℕ) → i < sum-to g n → b i ≤ τ) × ((i : ℕ) → sum-to g n ≤ i → i < n → τ < b i) →
-        (g n + sum-to g n ≤ suc n) × ((i : ℕ) → i < g n + sum-to g n → b i ≤ τ) × ((i : ℕ) → g n + sum-to g n ≤ i → i < suc n → τ < b i)
-    at (few, low, high) =
-        subst (λ (k : ℕ). (k + sum-to g n ≤ suc n) × ((i : ℕ) → i < k + sum-to g n → b i ≤ τ) × ((i : ℕ) → k + sum-to g n ≤ i → i < suc n → τ < b i))
-            (sym (e n))
-          (by-le (λ (k : ℕ). (k + sum-to g n ≤ suc n) × ((i : ℕ) → i < k + sum-to g n → b i ≤ τ) ×
-            ((i : ℕ) → k + sum-to g n ≤ i → i < suc n → τ < b i)) (b n) τ
-            (λ p. (omega arith, λ i q. until p i q (split i n), λ i q r. absurd (beyond p i q r (split (sum-to g n) n))))
-            (λ p. (omega arith, λ i q. low i (omega arith), λ i q r. from p i (omega arith) r (same? i n))))
-      where
-        until : b n ≤ τ → (i : ℕ) → i < 1 + sum-to g n → Split i n → b i ≤ τ
-        until p i q (Split.less r) = omega (arith, up i n r (omega arith))
-        until p i q (Split.more r) = let z : i ≡ n = omega arith in omega (arith, ap b z)
-        beyond : b n ≤ τ → (i : ℕ) → 1 + sum-to g n ≤ i → i < suc n → Split (sum-to g n) n → ⊥
-        beyond p i q r (Split.less z) = omega (arith, high (sum-to g n) (omega arith) z, up (sum-to g n) n z (omega arith))
-        beyond p i q r (Split.more z) = omega arith
-        from : τ < b n → (i : ℕ) → sum-to g n ≤ i → i < suc n → Same i n → τ < b i
-        from p i q r (eq z) = omega (arith, ap b z)
-        from p i q r (ne z) = high i q (omega arith)
-
 module _ (s : Catalogue) (invariant : Invariant s) (run : List Note) (E : Effected s run) where
-  -- the items of the object at τ are those born up to then
-  abbrev born-at : ℕ → ℕ
-  born-at i = s .memory .item i .effect-at 0
-
-  known-items : (τ : ℕ) → (object-at τ (effects run) .items ≤ s .memory .items) × ((i : ℕ) → i < object-at τ (effects run) .items → born-at i ≤ τ)
-      × ((i : ℕ) → object-at τ (effects run) .items ≤ i → i < s .memory .items → τ < born-at i)
-  known-items τ =
-      subst (λ (k : ℕ). (k ≤ s .memory .items) × ((i : ℕ) → i < k → born-at i ≤ τ) × ((i : ℕ) → k ≤ i → i < s .memory .items → τ < born-at i))
-        (sym (E .memory .items τ)) (risen born-at τ (s .memory .items) (born-by τ (s .memory)) one-each rising)
-    where
-      one-each : (i : ℕ) → born-by τ (s .memory) i ≡ cond (leb (born-at i) τ) 1 0
-      one-each i = unfold object-at apply in (at (leb (born-at i) τ))
-        where
-          at : (b : Bool) → cond b (apply (register i (s .memory .item i .value 0) (s .memory .item i .size)) empty) empty .items ≡ cond b 1 0
-          at true = unfold apply in refl
-          at false = refl
-      rising : (i j : ℕ) → i < j → j < s .memory .items → born-at i ≤ born-at j
-      rising i j p q = omega (arith, invariant .kept .memory .births i j p q, invariant .kept .memory .item i .birth
-          (invariant .kept .memory .registered i (omega arith)), invariant .kept .memory .item j .birth (invariant .kept .memory .registered j q))
-
   -- the object when the counter left h
   shot : (h : ℕ) → Shot s invariant h (object-at (s .memory .camera .left-at h) (effects run))
   shot h =
@@ -91,10 +44,11 @@ module _ (s : Catalogue) (invariant : Invariant s) (run : List Note) (E : Effect
             (E .memory .versions i 0 (have i p)) (known .1 i p) (refl, refl) (λ y a u c. sized i y u (E .memory .only y a) c) }
     where
       known : (object-at (s .memory .camera .left-at h) (effects run) .items ≤ s .memory .items)
-          × ((i : ℕ) → i < object-at (s .memory .camera .left-at h) (effects run) .items → born-at i ≤ s .memory .camera .left-at h)
+          × ((i : ℕ) → i < object-at (s .memory .camera .left-at h) (effects run) .items → s .memory .item i .effect-at 0 ≤
+            s .memory .camera .left-at h)
           × ((i : ℕ) → object-at (s .memory .camera .left-at h) (effects run) .items ≤ i → i < s .memory .items → s .memory .camera .left-at h <
-            born-at i)
-      known = known-items (s .memory .camera .left-at h)
+            s .memory .item i .effect-at 0)
+      known = known-items s invariant run E (s .memory .camera .left-at h)
       have : (i : ℕ) → i < object-at (s .memory .camera .left-at h) (effects run) .items → 0 < s .memory .item i .valid
       have i p = invariant .kept .memory .registered i (omega (arith, known .0))
       there : (i : ℕ) → 0 < s .memory .item i .valid → Split i (s .memory .items) → i < s .memory .items
@@ -119,7 +73,7 @@ module _ (s : Catalogue) (invariant : Invariant s) (run : List Note) (E : Effect
       subst (λ (r : List ℕ). TotalLines run (effects run) (s .memory .camera .left-at h) o (suc i) (r ++ l) f)
         (ap (read-lines (x .tbd)) (ap (λ (f : ℕ). changes-between i (s .memory .camera .left-at h) f (effects run)) (sym w)
           ∙ passed-is s invariant run E i h o e j r x) ∙ sym (x .lines))
-        (read {i = i} f (x .tbd) y p (lines-are z))
+        (read {i = i} f (x .tbd) y p (born-then s invariant run E i (s .memory .camera .left-at h) j (x .sees)) (lines-are z))
 
   exact-total : (A : Agrees s run) (o τ x e : ℕ) → TotalEnd (s .memory) run h o e (s .fate o .lines) → s .fate o .operation ≡ total q h →
       s .fate o .done ≡ true → TotalRead (s .memory) q h o (s .fate o .lines) τ x → ExactTotal run (effects run) o q h x

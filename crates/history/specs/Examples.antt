@@ -1,5 +1,6 @@
 -- Three runs with their one order written out: in none of them is it the order of the answers.
 use mathlib.Core.Path.{_≡_, refl, _∙_}
+use mathlib.Core.Bool.{true}
 use mathlib.Core.List.{List, [], _∷_, _++_}
 use Prim.Native.Nat.{ℕ}
 use lib.ListN.{replicate}
@@ -16,32 +17,31 @@ use Rattle.history.specs.OrderList.{slot-onto, order-to}
 use Rattle.history.specs.NotesOrder.{notes-order, notes-order-is}
 
 -- calls in their order, the newest first when they are made
-abbrev made : List Call → List Call → List Call
+abbrev pub made : List Call → List Call → List Call
 made [] done = done
 made (c ∷ cs) done = made cs (c ∷ done)
 
-abbrev steps : ℕ → ℕ → List Call
+abbrev pub steps : ℕ → ℕ → List Call
 steps w n = replicate n (Call.step w)
 
-abbrev sizes : Limits
+abbrev pub sizes : Limits
 sizes = record { workers = 3; items = 1; nodes = 4; projects = 4; counter = 16 }
 
 -- the order of demand 2's theorem, the newest first: operations by the times of their starts
-abbrev order-of : List Call → List ℕ
+abbrev pub order-of : List Call → List ℕ
 order-of cs = notes-order sizes (made cs []) .order
 
--- A helper stamps another's node after a snapshot was taken in between. Worker 0's vCAS (1) publishes and stops. Worker 1's vRead (7) fetches its node and
--- reads
--- the counter; worker 2's takeSnapshot (11) answers 0; then worker 1 stamps the node, and answers 2. Worker 2's readSnapshot (16) at handle 0 answers 2,
--- and worker 0 answers last.
-helped : List Call
+-- A helper stamps another's node after a snapshot was taken in between. Worker 0's vCAS (1) publishes and stops. Worker 1's vRead (7) fetches its
+-- node and reads the counter; worker 2's takeSnapshot (11) answers 0; then worker 1 stamps the node, and answers 2. Worker 2's readSnapshot (16) at
+-- handle 0 answers 2, and worker 0 answers last.
+unfoldable pub helped : List Call
 helped =
     Call.register 1 100 ∷ Call.v-cas 0 0 1 2 ∷ steps 0 5
     ++ (Call.v-read 1 0 ∷ steps 1 3 ++ (Call.take-snapshot 2 ∷ steps 2 2 ++ (steps 1 2 ++ (Call.read-snapshot 2 0 0 ∷ steps 2 3 ++ steps 0 2))))
 
 -- The vCAS took effect at the helper's line 21, call 10: before the snapshot, call 13, and before the vRead, at the line 22 that made the stamp valid,
 -- call 14.
-helped-order : order-of helped ≡ 16 ∷ 7 ∷ 11 ∷ 1 ∷ 0 ∷ []
+pub helped-order : order-of helped ≡ 16 ∷ 7 ∷ 11 ∷ 1 ∷ 0 ∷ []
 unfolding helped order-to slot-onto first-free node-to-take used-next all-but-first one-taken one-returned after total-at line memory-after
     place-after ended turned-away affect settle tick stepped stepping first-phase begun starting registered registering move call reply fresh
     after-calls put
@@ -65,28 +65,26 @@ helped-object = (refl, refl, refl, refl)
 
 -- What the readSnapshot (16) and the vCAS (1) came to: 2 in 3 steps, and 1 in 7, the last of all.
 helped-read : ledger (machine-notes sizes (made helped [])) .fate 16
-  ≡ record { operation = read-snapshot 0 0; worker = 2; lines = 34 ∷ 20 ∷ 32 ∷ []; ending = Ending.answers 2; at = 19 }
+  ≡ record { operation = read-snapshot 0 0; worker = 2; lines = 34 ∷ 20 ∷ 32 ∷ []; found = true ∷ []; ending = Ending.answers 2; at = 19 }
 unfolding helped ledger entered machine-notes machine-note first-free node-to-take used-next all-but-first one-taken one-returned after total-at line
-    memory-after
-    place-after ended turned-away affect settle tick stepped stepping first-phase begun starting registered registering move call reply fresh
-    after-calls put
+    memory-after place-after ended turned-away affect settle tick stepped stepping first-phase begun starting registered registering move call reply
+    fresh after-calls put
 helped-read = refl
 
 helped-change : ledger (machine-notes sizes (made helped [])) .fate 1
-  ≡ record { operation = v-cas 0 1 2; worker = 0; lines = 48 ∷ 20 ∷ 46 ∷ 45 ∷ 43 ∷ 20 ∷ 41 ∷ []; ending = Ending.answers 1; at = 21 }
+  ≡ record { operation = v-cas 0 1 2; worker = 0; lines = 48 ∷ 20 ∷ 46 ∷ 45 ∷ 43 ∷ 20 ∷ 41 ∷ []; found = true ∷ true ∷ [];
+    ending = Ending.answers 1; at = 21 }
 unfolding helped ledger entered machine-notes machine-note first-free node-to-take used-next all-but-first one-taken one-returned after total-at line
-    memory-after
-    place-after ended turned-away affect settle tick stepped stepping first-phase begun starting registered registering move call reply fresh
-    after-calls put
+    memory-after place-after ended turned-away affect settle tick stepped stepping first-phase begun starting registered registering move call reply
+    fresh after-calls put
 helped-change = refl
 
--- A lost vCAS comes right after the first change, while a second change follows. Worker 1's vCAS(1,3) (2) is past 45 when worker 0's vCAS(1,2) (1) changes
--- the value; worker 2's
--- vCAS(2,0) (16) changes it again; then worker 1 loses at 46, and answers 0 last.
-lost : List Call
+-- A lost vCAS comes right after the first change, while a second change follows. Worker 1's vCAS(1,3) (2) is past 45 when worker 0's vCAS(1,2) (1)
+-- changes the value; worker 2's vCAS(2,0) (16) changes it again; then worker 1 loses at 46, and answers 0 last.
+unfoldable pub lost : List Call
 lost = Call.register 1 100 ∷ Call.v-cas 0 0 1 2 ∷ Call.v-cas 1 0 1 3 ∷ steps 1 4 ++ (steps 0 9 ++ (Call.v-cas 2 0 2 0 ∷ steps 2 9 ++ steps 1 5))
 
-lost-order : order-of lost ≡ 16 ∷ 2 ∷ 1 ∷ 0 ∷ []
+pub lost-order : order-of lost ≡ 16 ∷ 2 ∷ 1 ∷ 0 ∷ []
 unfolding lost order-to slot-onto first-free node-to-take used-next all-but-first one-taken one-returned after total-at line memory-after place-after
     ended turned-away affect settle tick stepped stepping first-phase begun starting registered registering move call reply fresh after-calls put
 lost-order = notes-order-is sizes (made lost []) ∙ refl
@@ -97,13 +95,12 @@ unfolding lost effects insert ledger entered last-published machine-notes machin
     first-phase begun starting registered registering move call reply fresh after-calls put
 lost-effects = refl
 
--- Two takeSnapshots share a moment. Workers 0 (1) and 1 (2) both read 0 at line 5; worker 1 moves the counter, call 5, and answers 0; worker 2's vRead (6)
--- answers; then worker 0
--- fails at line 6 and answers 0 last, though it too took effect at call 5.
-shared : List Call
+-- Two takeSnapshots share a moment. Workers 0 (1) and 1 (2) both read 0 at line 5; worker 1 moves the counter, call 5, and answers 0; worker 2's
+-- vRead (6) answers; then worker 0 fails at line 6 and answers 0 last, though it too took effect at call 5.
+unfoldable pub shared : List Call
 shared = Call.register 1 100 ∷ Call.take-snapshot 0 ∷ Call.take-snapshot 1 ∷ Call.step 0 ∷ steps 1 2 ++ (Call.v-read 2 0 ∷ steps 2 3 ++ steps 0 1)
 
-shared-order : order-of shared ≡ 6 ∷ 2 ∷ 1 ∷ 0 ∷ []
+pub shared-order : order-of shared ≡ 6 ∷ 2 ∷ 1 ∷ 0 ∷ []
 unfolding shared order-to slot-onto first-free node-to-take used-next all-but-first one-taken one-returned after total-at line memory-after
     place-after ended turned-away affect settle tick stepped stepping first-phase begun starting registered registering move call reply fresh
     after-calls put

@@ -1,5 +1,5 @@
-pub mod Tools
 pub mod Definition1
+pub mod Tools
 pub mod Notes
 pub mod NoteParts
 pub mod Statements
@@ -22,6 +22,7 @@ pub mod Order
 pub mod NodeCount
 pub mod StepCount
 pub mod MachineNotes
+pub mod Helps
 pub mod LedgerRight
 pub mod Trace
 pub mod TraceStep
@@ -35,6 +36,7 @@ pub mod EffectList
 pub mod EffectsRight
 pub mod LastSteps
 pub mod EffectsRun
+pub mod BornItems
 pub mod ExactReads
 pub mod TotalTrace
 pub mod TotalRun

@@ -8,7 +8,7 @@ use lib.Dec.{T, ltb, eqb, nleb→lt}
 use Rattle.definitions.specs.Answers.{Refusal, accepted}
 use Rattle.definitions.specs.Calls.{Call}
 use Rattle.history.specs.Tools.{by-eq, by-test}
-use Rattle.history.specs.Notes.{Deed, fetches, moves, Ending, Note, note-of, step-note, if-accepted}
+use Rattle.history.specs.Notes.{Deed, fetches, finds, moves, Ending, Note, note-of, step-note, if-accepted}
 use Rattle.history.specs.Notes as Notes
 use Rattle.history.specs.Machine.{Memory, Limits, found, node-to-take, Operation, v-read, v-cas, take-snapshot, read-snapshot, total, Phase,
     line-37, line-39, line-41, line-43, line-45, line-46, line-48, line-50, line-51, line-52, line-5, line-6, line-32, line-34, total-32, total-34,
@@ -43,7 +43,7 @@ phase-deed m (line-34 i h f j x) = Notes.nothing
 phase-deed m (total-32 q h k i u) = Notes.nothing
 phase-deed m (total-34 q h k i u f j x) = Notes.nothing
 phase-deed m (closing q h k u) = Notes.nothing
-phase-deed m (line-20 c j) = Notes.nothing
+phase-deed m (line-20 c j) = finds (ltb j (m .item (helped-item c) .valid))
 phase-deed m (line-21 c j) = Notes.nothing
 phase-deed m (line-22 c j n r) = cond (ltb j (m .item (helped-item c) .valid)) Notes.nothing
     (Notes.stamps (helped-item c) (m .item (helped-item c) .value j))

@@ -1,10 +1,11 @@
--- The parts of notes and deeds, to tell them apart.
+-- The parts of notes and deeds, to tell them apart. The tags of what changes nothing are 0 and 1.
 use Prim.Native.Nat.{ℕ}
 use Rattle.history.specs.Notes.{Deed, Ending, Note}
 use Rattle.history.specs.Notes as Notes
 
 abbrev pub deed-tag : Deed → ℕ
 deed-tag (Notes.fetches i b) = 1
+deed-tag (Notes.finds b) = 1
 deed-tag (Notes.publishes i v) = 2
 deed-tag (Notes.stamps i v) = 3
 deed-tag (Notes.moves h) = 4
@@ -12,6 +13,7 @@ deed-tag Notes.nothing = 0
 
 abbrev pub deed-item : Deed → ℕ
 deed-item (Notes.fetches i b) = i
+deed-item (Notes.finds b) = 0
 deed-item (Notes.publishes i v) = i
 deed-item (Notes.stamps i v) = i
 deed-item (Notes.moves h) = h
@@ -19,6 +21,7 @@ deed-item Notes.nothing = 0
 
 abbrev pub deed-value : Deed → ℕ
 deed-value (Notes.fetches i b) = 0
+deed-value (Notes.finds b) = 0
 deed-value (Notes.publishes i v) = v
 deed-value (Notes.stamps i v) = v
 deed-value (Notes.moves h) = 0
@@ -58,10 +61,3 @@ note-deed Notes.refused = Notes.nothing
 note-deed (Notes.registered i v s) = Notes.nothing
 note-deed (Notes.started w op) = Notes.nothing
 note-deed (Notes.stepped w k d e) = d
-
--- 3 where no line was executed
-abbrev pub note-ending : Note → ℕ
-note-ending Notes.refused = 3
-note-ending (Notes.registered i v s) = 3
-note-ending (Notes.started w op) = 3
-note-ending (Notes.stepped w k d e) = ending-tag e

@@ -1,6 +1,8 @@
 -- What a call did, noted by one who sees the words before it, the call and its answer. A run is told by its notes, and so is
 -- what each operation came to, and what took effect when.
-use Prim.Native.Nat.{ℕ, _+_}
+use mathlib.Core.Path.{_≡_}
+use mathlib.Core.Logic.{_≢_}
+use Prim.Native.Nat.{ℕ, _+_, _<_}
 use mathlib.Core.Bool.{Bool, cond, not, _&&_}
 use mathlib.Core.List.{List, [], _∷_}
 use lib.Dec.{ltb, leb, eqb}
@@ -11,12 +13,13 @@ use Rattle.definitions.specs.Cells.{Cells, cells-of, counter, phase, item, node
 use Rattle.definitions.specs.Phases.{row-of, total-operation}
 use Rattle.definitions.specs.Damage.{TBD, any-of}
 use Rattle.definitions.specs.Calls.{Call, outcome}
-use Rattle.history.specs.Tools.{put}
-use Rattle.history.specs.Definition1.{Operation, register, v-read, v-cas, take-snapshot, read-snapshot, total, Object, with-value, apply, empty}
+use Rattle.history.specs.Definition1.{Operation, register, v-read, v-cas, take-snapshot, read-snapshot, total, Object, put, with-value,
+    apply, empty}
 
 -- What a line did that others can see, or saw of others:
 pub data Deed : Type 0 where
   fetches : (i : ℕ) (valid : Bool) → Deed     -- lines 32, 37, 41 and 51: the head of item i, whose stamp is valid, or TBD (a total's are left out)
+  finds : (valid : Bool) → Deed               -- line 20: the stamp of the node that it helps is valid, or TBD
   publishes : (i v : ℕ) → Deed                -- line 46, where it succeeds: a node of value v becomes the head of item i
   stamps : (i v : ℕ) → Deed                   -- line 22, where it succeeds: a node of item i, of value v, has its stamp
   moves : (h : ℕ) → Deed                      -- line 6, where it succeeds: the counter leaves h
@@ -45,9 +48,10 @@ fetches-head r = any-of (eqb (r .line) 32 ∷ eqb (r .line) 37 ∷ eqb (r .line)
 abbrev pub deed-at : PhaseRow → Cells → ℕ → Deed
 deed-at r m w =
     cond (fetches-head r) (fetches (m (item w)) (not (eqb (m (stamp (m (head (m (item w)))))) TBD)))
+    (cond (eqb (r .line) 20) (finds (not (eqb (m (stamp (m (node w)))) TBD)))
     (cond (eqb (r .line) 46 && eqb (m (head (m (item w)))) (m (node w))) (publishes (m (item w)) (m (value (m (new-node w)))))
     (cond (eqb (r .line) 22 && eqb (m (stamp (m (node w)))) TBD) (stamps (m (item w)) (m (value (m (node w)))))
-    (cond (eqb (r .line) 6 && eqb (m counter) (m (seen w))) (moves (m counter)) nothing)))
+    (cond (eqb (r .line) 6 && eqb (m counter) (m (seen w))) (moves (m counter)) nothing))))
 
 -- a step with its answer: finished, running, or ended with number 11 or 12; any other answer is a refusal
 abbrev pub step-note : (w line : ℕ) → Deed → Answer → Note
@@ -88,12 +92,42 @@ unfoldable pub notes : List ℕ → List Call → List Note
 notes ws [] = []
 notes ws (c ∷ cs) = note (words-after ws cs) c ∷ notes ws cs
 
+-- A run begins on the words that an accepted make leaves.
+abbrev pub start : List ℕ → (p m n q c : ℕ) → List ℕ
+start ws p m n q c = outcome ws (Call.make p m n q c) .words
+
+-- The arguments of a call are numbers of their types. No refusal tests a register's size, which is any 32-bit number.
+abbrev pub Typed : Call → Type 0
+Typed (Call.make p m n q c) = Unit {0}
+Typed (Call.register v s) = s < 4294967296
+Typed (Call.v-read w i) = Unit {0}
+Typed (Call.v-cas w i old new) = Unit {0}
+Typed (Call.take-snapshot w) = Unit {0}
+Typed (Call.read-snapshot w i h) = Unit {0}
+Typed (Call.total w q h) = Unit {0}
+Typed (Call.step w) = Unit {0}
+
+-- A call of a run: its arguments are numbers of their types, and it is no accepted make.
+pub record Run-call (ws : List ℕ) (x : Call) : Type 0 where
+  pub typed : Typed x
+  pub no-make : (p m n q c : ℕ) → x ≡ Call.make p m n q c → outcome ws x .answer .code ≢ 2
+
+-- the calls of a run
+abbrev pub Run : List ℕ → List Call → Type 0
+Run ws [] = Unit {0}
+Run ws (x ∷ cs) = Run ws cs × Run-call (words-after ws cs) x
+
+-- the code of refusal 2
+abbrev pub damaged-code : ℕ
+damaged-code = 18
+
 -- ---- what each operation came to, written down from the notes; it is named by the time of its start, the index of that call
 
 pub record Fate : Type 0 where
   pub operation : Operation
   pub worker : ℕ
   pub lines : List ℕ       -- the lines that it has executed, the newest first
+  pub found : List Bool    -- what each of its lines 20 found, the newest first: a valid stamp, or TBD
   pub ending : Ending      -- how its latest call left it
   pub at : ℕ               -- and when that was
 
@@ -101,11 +135,21 @@ pub record Ledger : Type 0 where
   pub fate : ℕ → Fate      -- of each operation
   pub current : ℕ → ℕ      -- the operation that each worker was started in last
 
+-- what a line 20 found, onto what those before it did
+abbrev pub found-onto : Deed → List Bool → List Bool
+found-onto (fetches i valid) l = l
+found-onto (finds valid) l = valid ∷ l
+found-onto (publishes i v) l = l
+found-onto (stamps i v) l = l
+found-onto (moves h) l = l
+found-onto nothing l = l
+
 -- an operation begins at t, or executes a line at t
 abbrev pub begins : Operation → (w : ℕ) → Ending → (t : ℕ) → Fate
-begins op w e t = record { operation = op; worker = w; lines = []; ending = e; at = t }
-abbrev pub continues : Fate → (line : ℕ) → Ending → (t : ℕ) → Fate
-continues f line e t = record { operation = f .operation; worker = f .worker; lines = line ∷ f .lines; ending = e; at = t }
+begins op w e t = record { operation = op; worker = w; lines = []; found = []; ending = e; at = t }
+abbrev pub continues : Fate → (line : ℕ) → Deed → Ending → (t : ℕ) → Fate
+continues f line d e t =
+    record { operation = f .operation; worker = f .worker; lines = line ∷ f .lines; found = found-onto d (f .found); ending = e; at = t }
 
 -- the entry of a call at t
 unfoldable pub entered : ℕ → Note → Ledger → Ledger
@@ -113,7 +157,7 @@ entered t refused l = l
 entered t (registered i v s) l = record { fate = put (l .fate) t (begins (register i v s) 0 (answers i) t); current = l .current }
 entered t (started w op) l = record { fate = put (l .fate) t (begins op w goes-on t); current = put (l .current) w t }
 entered t (stepped w line d e) l =
-    record { fate = put (l .fate) (l .current w) (continues (l .fate (l .current w)) line e t); current = l .current }
+    record { fate = put (l .fate) (l .current w) (continues (l .fate (l .current w)) line d e t); current = l .current }
 
 -- where no operation was started, an ending stands that none has
 unfoldable pub ledger : List Note → Ledger

@@ -114,10 +114,12 @@ module _ (s : Catalogue) (invariant : Invariant s) (run : List Note) (T : Traced
             (sym (ap (λ (l : List ℕ). getD l 0 0) (A .fate o .done (A .fate o .answered x e) .1)) ∙ l);
         legal = subst (λ (l : List Act). Legal l) (acts-same (has-one-order s invariant .order)) (has-one-order s invariant .legal) }
     where
-      only : (o : ℕ) → Told.In o (has-one-order s invariant .order) → (s .fate o .done ≡ true) ⊎ Pending s o →
-          Told.Finished run o (has-one-order s invariant .answer o) ⊎ Told.Pending run o (has-one-order s invariant .time o)
+      only : (o : ℕ) → Told.In o (has-one-order s invariant .order) →
+          (s .fate o .done ≡ true) ⊎ (Pending s o × (has-one-order s invariant .answer o ≡ 1)) →
+          Told.Finished run o (has-one-order s invariant .answer o)
+            ⊎ (Told.Pending run o (has-one-order s invariant .time o) × (has-one-order s invariant .answer o ≡ 1))
       only o i (inl d) = inl (A .fate o .done d .0 ∙ ap Notes.answers (has-one-order s invariant .answered o i d))
-      only o i (inr p) = inr (pending A o p)
+      only o i (inr (p, x)) = inr (pending A o p, x)
       within : (o : ℕ) → Within s o (has-one-order s invariant .time o) → Told.Within run o (has-one-order s invariant .time o)
       within o (inside a b) = inl (a, λ x e. subst (λ (t : ℕ). has-one-order s invariant .time o ≤ t)
           (sym (A .fate o .done (A .fate o .answered x e) .2))

@@ -62,7 +62,7 @@ pub record OneOrder (s : Catalogue) : Type 0 where
   pub once : Once order
   pub all : (o : ℕ) → o < s .now → s .fate o .done ≡ true → In o order
   pub changed : (i j : ℕ) → j < s .memory .item i .valid → In (s .memory .item i .author j) order
-  pub only : (o : ℕ) → In o order → (s .fate o .done ≡ true) ⊎ Pending s o
+  pub only : (o : ℕ) → In o order → (s .fate o .done ≡ true) ⊎ (Pending s o × (answer o ≡ 1))
   pub within : (o : ℕ) → In o order → Within s o (time o)
   pub falling : Falling time order
   pub keys : Falling (λ o. key-of (s .memory) (s .place o)) order

@@ -1,5 +1,5 @@
 -- Every run of the machine of versions has the one order.
-use mathlib.Core.Path.{_≡_, refl, ap, sym, _∙_, subst}
+use mathlib.Core.Path.{_≡_, refl, ap, ap₂, sym, _∙_, subst}
 use mathlib.Core.Logic.{_⊎_, inl, inr}
 use mathlib.Core.Bool.{Bool, true, false, cond, true≢false}
 use mathlib.Core.List.{List, _∷_}
@@ -69,17 +69,20 @@ module _ (s : Catalogue) (invariant : Invariant s) where
 
   -- ---- the linearization
 
-  placed : (o k : ℕ) → T (keyed (s .memory) (s .place o) k) → (s .fate o .done ≡ true) ⊎ Pending s o
+  placed : (o k : ℕ) → T (keyed (s .memory) (s .place o) k) →
+      (s .fate o .done ≡ true) ⊎ (Pending s o × (answer-at (s .fate o .operation) (s .place o) ≡ 1))
   placed o k x = at (s .place o) refl x
     where
       fate : (d : Bool) → s .fate o .done ≡ d → (i j : ℕ) → s .place o ≡ changes i j → ChangeRight (s .now) o i j (s .memory) (s .fate o) →
-          (s .fate o .done ≡ true) ⊎ Pending s o
+          (s .fate o .done ≡ true) ⊎ (Pending s o × (answer-at (s .fate o .operation) (s .place o) ≡ 1))
       fate true e i j p c = inl e
       fate false e i zero p c = inl (c .register-done refl)
       fate false e i (suc j) p c =
           inr (record { unfinished = e; i = i; a = s .memory .item i .value j; b = s .memory .item i .value (suc j);
-          is-cas = change-operation s invariant o i (suc j) p; j = suc j; mine = c .mine; valid = c .good })
-      at : (p : Place) → s .place o ≡ p → T (keyed (s .memory) p k) → (s .fate o .done ≡ true) ⊎ Pending s o
+          is-cas = change-operation s invariant o i (suc j) p; j = suc j; mine = c .mine; valid = c .good },
+            ap₂ answer-at (change-operation s invariant o i (suc j) p) p)
+      at : (p : Place) → s .place o ≡ p → T (keyed (s .memory) p k) →
+          (s .fate o .done ≡ true) ⊎ (Pending s o × (answer-at (s .fate o .operation) (s .place o) ≡ 1))
       at unplaced e x = absurd x
       at (awaits i j) e x = absurd x
       at (changes i j) e x = fate (s .fate o .done) refl i j e

@@ -15,7 +15,7 @@ use Rattle.history.specs.Machine.{Item, Memory, Limits, Operation, regis
 use Rattle.history.specs.Facts.{empty, ItemFacts, MemoryFacts, LaterItem, Later}
 use Rattle.history.specs.Changes.{effect-later, camera-stays, item-same, item-stays, newborn-facts, newborn-later}
 use Rattle.history.specs.PhaseFacts.{Totals, PhaseFacts, phase-later}
-use Rattle.history.specs.RightAnswers.{phase-operation, has-published, FateLines}
+use Rattle.history.specs.RightAnswers.{phase-operation, FateLines}
 use Rattle.history.specs.Places.{VersionRight, PlaceRight, Kept, WorkerRight, Invariant, place-later, version-later, kept-by-effect,
     kept-in-table, moved-later}
 use Rattle.history.specs.Step.{unchanged, step-keeps}
@@ -84,16 +84,6 @@ module _ (s : Catalogue) (invariant : Invariant s) where
   first-operation take-snapshot x = refl
   first-operation (read-snapshot i h) x = refl
   first-operation (total q h) x = by-eq (λ (ph : Phase). total q h ≡ phase-operation ph) 0 (s .memory .items) (λ e. refl) (λ e. refl)
-
-  -- the operation has published nothing yet
-  first-early : (op : Operation) → has-published (first-phase (s .memory) op) ≡ false
-  unfolding first-phase total-at
-  first-early (register i v z) = refl
-  first-early (v-read i) = refl
-  first-early (v-cas i a b) = refl
-  first-early take-snapshot = refl
-  first-early (read-snapshot i h) = refl
-  first-early (total q h) = by-eq (λ (ph : Phase). has-published ph ≡ false) 0 (s .memory .items) (λ e. refl) (λ e. refl)
 
   begun-keeps : (w : ℕ) (op : Operation) → Passed (start-refusals (s .memory) op) → Invariant (tick (begun s w op))
   unfolding begun tick

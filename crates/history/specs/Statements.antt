@@ -3,9 +3,10 @@
 -- are times of calls: f of a fetch of the head, p of a publication at 46, r of a line 21 and s of the line 22 after it.
 use mathlib.Core.Path.{_≡_}
 use mathlib.Core.Logic.{_≢_, _⊎_, _↔_}
-use mathlib.Core.Bool.{Bool, true, false, cond}
+use mathlib.Core.Bool.{Bool, true, false, cond, not}
 use mathlib.Core.List.{List, [], _∷_, _++_, map}
 use Prim.Native.Nat.{ℕ, suc, _+_, _≤_, _<_}
+use lib.Dec.{eqb}
 use lib.ListN.{length, getD, replicate}
 use Rattle.history.specs.Definition1.{Operation, register, v-read, v-cas, take-snapshot, read-snapshot, total, total-of, Follows, Legal}
 use Rattle.history.specs.Notes.{Deed, fetches, publishes, stamps, moves, nothing, Ending, goes-on, answers, ends-with, Note, registered,
@@ -38,6 +39,11 @@ Next P f t = (f < t) × ((t' : ℕ) → P t' → f < t' → t ≤ t')
 abbrev pub helped : Bool → List ℕ → List ℕ
 helped false l = 20 ∷ l
 helped true l = 22 ∷ 21 ∷ 20 ∷ l
+
+-- What the lines 20 among them found, with the line that comes next: TBD where that is 21, else a valid stamp.
+abbrev pub found-by : (next : ℕ) → List ℕ → List Bool
+found-by next [] = []
+found-by next (line ∷ l) = cond (eqb line 20) (not (eqb next 21) ∷ found-by line l) (found-by line l)
 
 -- Those of a whole read of a snapshot: line 34 passed so many versions, and answered at the next.
 abbrev pub read-lines : Bool → ℕ → List ℕ
@@ -160,11 +166,11 @@ module _ (run : List Note) where
     pub order : List ℕ
     pub time : ℕ → ℕ
     pub answer : ℕ → ℕ
-    -- in it are, each once, the operations that answered and the changes that have taken effect, and no other
+    -- in it are, each once, the operations that answered and the changes that have taken effect, whose answer is 1, and no other
     pub once : Once order
     pub all : (o x : ℕ) → Finished o x → In o order
     pub effective : (o i τ : ℕ) → ChangeInstant o i τ → In o order
-    pub only : (o : ℕ) → In o order → Finished o (answer o) ⊎ Pending o (time o)
+    pub only : (o : ℕ) → In o order → Finished o (answer o) ⊎ (Pending o (time o) × (answer o ≡ 1))
     -- each within its call, in time order, at its instant
     pub within : (o : ℕ) → In o order → Within o (time o)
     pub falling : Falling time order
@@ -182,17 +188,19 @@ module _ (run : List Note) where
   TellsOf (snapshot t h) = (o : ℕ) × Executed o 6 (moves h) t
 
   module _ (effects : List Effect) where
-    -- Demand 3. left: when the counter left h; f: when its line 32 was executed. Its answer x is the value then, and its steps are k + 5 where
-    -- line 20 found TBD, else k + 3: k counts the changes with effect after left whose line 46 was before f.
+    -- Demand 3. left: when the counter left h, item i being registered before; f: when its line 32 was executed. Its answer x is the value at left,
+    -- and its steps are k + 5 where its one line 20 found TBD, else k + 3: k counts the changes with effect after left whose line 46 was before f.
     pub record ExactRead (o i h x : ℕ) : Type 0 where
       pub left : ℕ
       pub taken : In (snapshot left h) effects
+      pub born : i < object-at left effects .items
       pub answer : x ≡ object-at left effects .value i
       pub f : ℕ
       pub fetched : (valid : Bool) × Executed o 32 (fetches i valid) f
       pub k : ℕ
       pub counted : k ≡ changes-between i left f effects
       pub tbd : Bool
+      pub found : fate-of o .found ≡ not tbd ∷ []
       pub lines : fate-of o .lines ≡ read-lines tbd k
       pub steps : length (fate-of o .lines) ≡ k + cond tbd 5 3
 
@@ -202,7 +210,7 @@ module _ (run : List Note) where
       no-item : TotalLines left o 0 [] 0
       born-later : {i g : ℕ} {l : List ℕ} (f t v s : ℕ) → Executed o 32 nothing f → g < f → In (birth t i v s) effects → left < t →
         TotalLines left o i l g → TotalLines left o (suc i) (32 ∷ l) f
-      read : {i g : ℕ} {l : List ℕ} (f : ℕ) (tbd : Bool) → Executed o 32 nothing f → g < f →
+      read : {i g : ℕ} {l : List ℕ} (f : ℕ) (tbd : Bool) → Executed o 32 nothing f → g < f → i < object-at left effects .items →
         TotalLines left o i l g → TotalLines left o (suc i) (read-lines tbd (changes-between i left f effects) ++ l) f
 
     -- A total's answer x is the sum over all items born when the counter left h whose project then was q; its steps are those of its items,
@@ -222,6 +230,8 @@ module _ (run : List Note) where
       pub ordered : Falling time effects
       pub apart : Once (map time effects)
       pub exactly : (x : Effect) → In x effects ↔ TellsOf x
+      -- the counter leaves each handle once
+      pub leaves-once : (h t t' : ℕ) → In (snapshot t h) effects → In (snapshot t' h) effects → t ≡ t'
       -- demand 3: reads are exact
       pub reads : (o i h x : ℕ) → fate-of o .operation ≡ read-snapshot i h → Finished o x → ExactRead o i h x
       -- so are totals, which never take more than 5,121 steps
@@ -230,5 +240,7 @@ module _ (run : List Note) where
       -- the lines of all others, and of those that ended with number 11 or 12
       pub whole-lines : (o x : ℕ) → Finished o x → WholeLines (fate-of o .operation) (fate-of o .lines)
       pub refused-lines : (o n : ℕ) → n ≢ 0 → fate-of o .ending ≡ ends-with n → RefusedLines n (fate-of o .operation) (fate-of o .lines)
+      -- what line 20 found decides its help, in these and in all others: line 21 comes next exactly where it found TBD
+      pub helps : (o : ℕ) → fate-of o .ending ≢ goes-on → fate-of o .found ≡ found-by 0 (fate-of o .lines)
       -- an operation that goes on has not taken the most steps that it may take: one that is stepped so often has ended
       pub progress : (o : ℕ) → fate-of o .ending ≡ goes-on → length (fate-of o .lines) < most-steps (fate-of o .operation)

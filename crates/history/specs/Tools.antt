@@ -1,14 +1,11 @@
--- Small tools: a function changed at one place, and the two ways a test comes out.
+-- Small tools: laws of a function changed at one place, and the two ways a test comes out.
 use mathlib.Core.Path.{_≡_, refl, sym, subst}
 use mathlib.Core.Logic.{_≢_}
 use mathlib.Core.Bool.{Bool, true, false, not, cond, _&&_}
 use Prim.Native.Nat.{ℕ, _≤_, _<_}
 use native.Mathlib.Omega.{arith}
+unfoldable pub use Rattle.history.specs.Definition1.{put}
 use lib.Dec.{T, ltb, leb, eqb, ltb→lt, nltb→le, leb→le, nleb→lt, eqb→eq, eqb-refl}
-
--- f, but v at k
-unfoldable pub put {ℓ} : {A : Type ℓ} → (ℕ → A) → ℕ → A → ℕ → A
-put f k v n = cond (eqb n k) v (f n)
 
 neq : (a b : ℕ) → T (not (eqb a b)) → a ≢ b
 neq a b t p = lib.Dec.T-not (eqb a b) t (subst (λ (c : ℕ). T (eqb a c)) p (eqb-refl a))

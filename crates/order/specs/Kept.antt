@@ -1,29 +1,38 @@
 -- The promises kept by the machine of versions are kept by the words: their notes and answers are the same.
-use mathlib.Core.Path.{_≡_, ap, sym, _∙_, subst}
+use mathlib.Core.Path.{_≡_, ap, sym, _∙_, subst, subst-refl, pathJ}
 use mathlib.Core.List.{List, [], _∷_}
 use Prim.Native.Nat.{ℕ}
 use lib.ListN.{length}
 use Rattle.definitions.specs.declared.Answer.{Answer}
 use Rattle.definitions.specs.Calls.{Call, outcome}
-use Rattle.history.specs.Notes.{Deed, Ending, goes-on, Note, refused, stepped, words-after, note, notes, ledger}
+use Rattle.history.specs.Notes.{Deed, Ending, goes-on, Note, refused, stepped, note, words-after, notes, start, Run-call, Run, ledger}
 use Rattle.history.specs.Statements.{fate-of, Promises}
 use Rattle.history.specs.Effects.{effects}
 use Rattle.history.specs.Machine.{after-calls}
 use Rattle.history.specs.MachineNotes.{machine-note, machine-notes}
 use Rattle.history.specs.NodeCount.{limits-kept}
+use Rattle.history.specs.NotesOrder.{notes-order}
 use Rattle.history.specs.Promised.{promised}
 use Rattle.history.specs.StepsTold.{steps-told}
 use Rattle.history.specs.InWork.{always-steps}
 use Rattle.reached.specs.Whole.{Limits-fit}
-use Rattle.reached.specs.Run.{Run, Run-call, start, limits-of, reached-image, answers-agree}
+use Rattle.reached.specs.Run.{limits-of, reached-image, answers-agree}
 use Rattle.reached.specs.Noted.{notes-agree}
 
+-- the promises of equal notes have one order
+abbrev AllPromised : List Note → Type 0
+AllPromised l = Promises l (effects l)
+
+one-order-moved : {l l' : List Note} (e : l ≡ l') (x : AllPromised l) → subst AllPromised e x .one-order .order ≡ x .one-order .order
+one-order-moved {l} e x = pathJ (λ (l' : List Note) (e : l ≡ l'). subst AllPromised e x .one-order .order ≡ x .one-order .order)
+    (ap (λ (y : AllPromised l). y .one-order .order) (subst-refl AllPromised x)) e
+
 module _ (ws : List ℕ) (p m n q c : ℕ) (made : outcome ws (Call.make p m n q c) .answer .code ≡ 2) (cs : List Call)
-    (run : Run (start ws p m n q c made) cs) where
+    (run : Run (start ws p m n q c) cs) where
   abbrev now : List ℕ
-  now = words-after (start ws p m n q c made) cs
+  now = words-after (start ws p m n q c) cs
   abbrev told : List Note
-  told = notes (start ws p m n q c made) cs
+  told = notes (start ws p m n q c) cs
 
   same-notes : told ≡ machine-notes (limits-of p m n q c) cs
   same-notes = notes-agree ws p m n q c made cs run
@@ -32,8 +41,13 @@ module _ (ws : List ℕ) (p m n q c : ℕ) (made : outcome ws (Call.make p m n q
   sizes = subst Limits-fit (limits-kept (limits-of p m n q c) cs) (reached-image ws p m n q c made cs run .image .limits-fit)
 
   pub promises-kept : Promises told (effects told)
-  promises-kept = subst (λ (l : List Note). Promises l (effects l)) (sym same-notes)
+  promises-kept = subst AllPromised (sym same-notes)
       (promised (limits-of p m n q c) (sizes .items-in .1) (sizes .nodes-in .1) cs)
+
+  -- its order is that of the machine's run
+  pub order-kept : promises-kept .one-order .order ≡ notes-order (limits-of p m n q c) cs .order
+  unfolding promises-kept promised
+  order-kept = one-order-moved (sym same-notes) (promised (limits-of p m n q c) (sizes .items-in .1) (sizes .nodes-in .1) cs)
 
   first : List Note → Note
   first [] = refused

@@ -6,8 +6,8 @@ use mathlib.Core.List.{List, [], _∷_, _++_}
 use Prim.Native.Nat.{ℕ}
 use lib.Dec.{T, eqb, eqb→eq}
 use Rattle.definitions.specs.Calls.{Call, outcome}
-use Rattle.history.specs.Notes.{words-after}
-use Rattle.reached.specs.Run.{Typed, Run, Run-call, start}
+use Rattle.history.specs.Notes.{words-after, start, Typed, Run-call, Run}
+use Rattle.reached.specs.Run.{no-make-call}
 
 -- the arguments of every call are numbers of their types
 abbrev pub AllTyped : List Call → Type 0
@@ -30,8 +30,8 @@ pub record Since (ws : List ℕ) (cs : List Call) : Type 0 where
   pub after : List Call
   pub is : cs ≡ after ++ (Call.make p m n q c ∷ before)
   pub made : outcome (words-after ws before) (Call.make p m n q c) .answer .code ≡ 2
-  pub run : Run (start (words-after ws before) p m n q c made) after
-  pub words : words-after ws cs ≡ words-after (start (words-after ws before) p m n q c made) after
+  pub run : Run (start (words-after ws before) p m n q c) after
+  pub words : words-after ws cs ≡ words-after (start (words-after ws before) p m n q c) after
 
 -- an accepted make, or a call of a run
 accepted-or-not : (ws : List ℕ) (x : Call) → Typed x →
@@ -42,17 +42,17 @@ accepted-or-not ws (Call.make p m n q c) t = at (eqb (outcome ws (Call.make p m 
       ((p' : ℕ) × (m' : ℕ) × (n' : ℕ) × (q' : ℕ) × (c' : ℕ) × (Call.make p m n q c ≡ Call.make p' m' n' q' c')
           × (outcome ws (Call.make p' m' n' q' c') .answer .code ≡ 2)) ⊎ Run-call ws (Call.make p m n q c)
     at true e = inl (p, m, n, q, c, refl, eqb→eq _ 2 (subst T (sym e) tt))
-    at false e = inr (record { typed = tt; no-make = λ d f. true≢false (sym (is-two f) ∙ e) })
+    at false e = inr (record { typed = tt; no-make = λ p' m' n' q' c' d f. true≢false (sym (is-two f) ∙ e) })
       where
         is-two : outcome ws (Call.make p m n q c) .answer .code ≡ 2 → eqb (outcome ws (Call.make p m n q c) .answer .code) 2 ≡ true
         is-two f = ap (λ (k : ℕ). eqb k 2) f
-accepted-or-not ws (Call.register v s) t = inr (record { typed = t; no-make = λ d. absurd (true≢false (sym d)) })
-accepted-or-not ws (Call.v-read w i) t = inr (record { typed = tt; no-make = λ d. absurd (true≢false (sym d)) })
-accepted-or-not ws (Call.v-cas w i old new) t = inr (record { typed = tt; no-make = λ d. absurd (true≢false (sym d)) })
-accepted-or-not ws (Call.take-snapshot w) t = inr (record { typed = tt; no-make = λ d. absurd (true≢false (sym d)) })
-accepted-or-not ws (Call.read-snapshot w i h) t = inr (record { typed = tt; no-make = λ d. absurd (true≢false (sym d)) })
-accepted-or-not ws (Call.total w q h) t = inr (record { typed = tt; no-make = λ d. absurd (true≢false (sym d)) })
-accepted-or-not ws (Call.step w) t = inr (record { typed = tt; no-make = λ d. absurd (true≢false (sym d)) })
+accepted-or-not ws (Call.register v s) t = inr (no-make-call ws (Call.register v s) t refl)
+accepted-or-not ws (Call.v-read w i) t = inr (no-make-call ws (Call.v-read w i) tt refl)
+accepted-or-not ws (Call.v-cas w i old new) t = inr (no-make-call ws (Call.v-cas w i old new) tt refl)
+accepted-or-not ws (Call.take-snapshot w) t = inr (no-make-call ws (Call.take-snapshot w) tt refl)
+accepted-or-not ws (Call.read-snapshot w i h) t = inr (no-make-call ws (Call.read-snapshot w i h) tt refl)
+accepted-or-not ws (Call.total w q h) t = inr (no-make-call ws (Call.total w q h) tt refl)
+accepted-or-not ws (Call.step w) t = inr (no-make-call ws (Call.step w) tt refl)
 
 one-more : (ws : List ℕ) (x : Call) (cs : List Call) → Since ws cs → Run-call (words-after ws cs) x → Since ws (x ∷ cs)
 unfolding words-after

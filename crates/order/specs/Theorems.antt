@@ -5,27 +5,26 @@ use mathlib.Core.List.{List, _∷_}
 use Prim.Native.Nat.{ℕ}
 use lib.ListN.{length}
 use Rattle.definitions.specs.Calls.{Call, outcome}
-use Rattle.history.specs.Notes.{Deed, Ending, goes-on, Note, stepped, words-after, note, notes, ledger}
+use Rattle.history.specs.Notes.{Deed, Ending, goes-on, Note, stepped, note, words-after, notes, start, Run-call, Run, damaged-code, ledger}
 use Rattle.history.specs.Statements.{fate-of, Promises}
 use Rattle.history.specs.Effects.{effects}
-use Rattle.reached.specs.Run.{Run, Run-call, start}
-use Rattle.reached.specs.Never.{damaged-code, never-damaged}
+use Rattle.reached.specs.Never.{never-damaged}
 use Rattle.order.specs.Kept.{promises-kept, step-taken, steps-answered}
 
 module _ (ws : List ℕ) (p m n q c : ℕ) (made : outcome ws (Call.make p m n q c) .answer .code ≡ 2) (cs : List Call)
-    (run : Run (start ws p m n q c made) cs) where
+    (run : Run (start ws p m n q c) cs) where
   -- the words now, and the notes of the run
   abbrev pub now : List ℕ
-  now = words-after (start ws p m n q c made) cs
+  now = words-after (start ws p m n q c) cs
   abbrev pub told : List Note
-  told = notes (start ws p m n q c made) cs
+  told = notes (start ws p m n q c) cs
 
   -- no call answers 2
   pub never-2 : (x : Call) → Run-call now x → outcome now x .answer .code ≢ damaged-code
   never-2 = never-damaged ws p m n q c made cs run
 
   -- one order, the list of effects, exact reads and totals, lines and steps
-  pub promises : Promises told (effects told)
+  unfoldable pub promises : Promises told (effects told)
   promises = promises-kept ws p m n q c made cs run
 
   -- an operation that goes on is never refused a step

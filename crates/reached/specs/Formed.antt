@@ -12,7 +12,6 @@ use Rattle.definitions.specs.Cells.{Cells, cells-of, workers, items, used, give
 use Rattle.definitions.specs.Phases.{row-of, table}
 use Rattle.definitions.specs.Damage.{TBD, keeps-new-node}
 use Rattle.definitions.specs.Lines.{line-of-phase, lines}
-use Rattle.definitions.specs.Calls.{Call, outcome}
 use Rattle.cells.specs.WellFormed.{next-link, link-after, Place, in-list, returned, held-by, Stands-at, Ends-with-birth, Well-formed}
 use Rattle.history.specs.Tools.{Split, split}
 use Rattle.history.specs.Machine.{Item, Memory, Phase, line-37, line-39, line-41, line-43, line-45, line-46, line-48, line-50, line-51, line-52, line-5, line-6, line-32, line-34, total-32, total-34, closing, line-20, line-21, line-22, line-number, Worker, idle, busy, Catalogue}
@@ -25,8 +24,7 @@ use Rattle.reached.specs.Homes.{Waits-at, Holding, Worker-holding}
 use Rattle.reached.specs.Whole.{Few-steps, Catalogue-image}
 use Rattle.reached.specs.Step.{is-busy, has, steps-well}
 use Rattle.reached.specs.Start.{first-worker, worker-sound, item-is-sound}
-use Rattle.reached.specs.Run.{few, Run, Words-image, header-is-sound, start, machine, reached-image}
-use Rattle.history.specs.Notes.{words-after}
+use Rattle.reached.specs.Run.{few, Words-image, header-is-sound}
 
 -- The same walk, from its front.
 link-front : (f : Cells) (first k : ℕ) → link-after f first (suc k) ≡ link-after f (next-link f first) k
@@ -330,9 +328,3 @@ image-well-formed ws s U F = record {
   where
     Z : Catalogue-image (cells-of ws) s
     Z = U .image
-
-module _ (ws : List ℕ) (p m n q c : ℕ) (made : outcome ws (Call.make p m n q c) .answer .code ≡ 2) where
-  -- Every reached catalogue is well-formed.
-  pub reached-well-formed : (cs : List Call) → Run (start ws p m n q c made) cs → Well-formed (words-after (start ws p m n q c made) cs)
-  reached-well-formed cs r = image-well-formed (words-after (start ws p m n q c made) cs) (machine ws p m n q c made cs)
-      (reached-image ws p m n q c made cs r) (few ws p m n q c made cs)

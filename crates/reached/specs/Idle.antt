@@ -86,7 +86,7 @@ module _ (p m n : ℕ) (ws : List ℕ) (T : Tidied p m n ws) where
 
   -- a call of a run: any but an accepted make
   run-call : (x : Call) → Run-call ws x → Tidied p m n (outcome ws x .words)
-  run-call (Call.make a b d q c) t = subst (λ (r : Result). Tidied p m n (r .words)) (sym (make-refuses ws a b d q c (t .no-make refl))) T
+  run-call (Call.make a b d q c) t = subst (λ (r : Result). Tidied p m n (r .words)) (sym (make-refuses ws a b d q c (t .no-make a b d q c refl))) T
   run-call (Call.register v z) t = other-call (Call.register v z) refl
   run-call (Call.v-read w i) t = other-call (Call.v-read w i) refl
   run-call (Call.v-cas w i x y) t = other-call (Call.v-cas w i x y) refl
@@ -159,22 +159,22 @@ module _ (ws : List ℕ) (p m n q c : ℕ) (accepted : outcome ws (Call.make p m
       at true e h = absurd (never-both (in-use-now f d) (rw e) h)
       at false e h = omega (arith, ltb-false (d .kind) 9 e)
 
-  start-tidied : Tidied p m n (start ws p m n q c accepted)
+  start-tidied : Tidied p m n (start ws p m n q c)
   start-tidied = subst (Tidied p m n) (sym (make-accepts ws p m n q c accepted .leaves)) (record {
     sized = made-sized ws p m n q c;
     rest-zero = λ d s e. made-fresh ws p m n q c .rest-zero d s (past-sizes (cells-of (made ws p m n q c)) d e) })
 
-  tidied : (cs : List Call) → Run (start ws p m n q c accepted) cs → Tidied p m n (words-after (start ws p m n q c accepted) cs)
+  tidied : (cs : List Call) → Run (start ws p m n q c) cs → Tidied p m n (words-after (start ws p m n q c) cs)
   unfolding words-after
   tidied [] r = start-tidied
-  tidied (x ∷ cs) r = run-call p m n (words-after (start ws p m n q c accepted) cs) (tidied cs (r .0)) x (r .1)
+  tidied (x ∷ cs) r = run-call p m n (words-after (start ws p m n q c) cs) (tidied cs (r .0)) x (r .1)
 
   -- In every run what is not in use is zero,
-  pub unused-zero : (cs : List Call) → Run (start ws p m n q c accepted) cs → Unused-zero p m n (words-after (start ws p m n q c accepted) cs)
-  unused-zero cs r = unused-words p m n (words-after (start ws p m n q c accepted) cs) (tidied cs r)
+  pub unused-zero : (cs : List Call) → Run (start ws p m n q c) cs → Unused-zero p m n (words-after (start ws p m n q c) cs)
+  unused-zero cs r = unused-words p m n (words-after (start ws p m n q c) cs) (tidied cs r)
 
   -- and so an idle worker's record is all zero.
-  pub idle-record-zero : (cs : List Call) → Run (start ws p m n q c accepted) cs → (w : ℕ) → w < p
-      → getD (words-after (start ws p m n q c accepted) cs) (16 + 16 * w) 0 ≡ 0
-      → (k : ℕ) → k < 16 → Zero-at (words-after (start ws p m n q c accepted) cs) (16 + 16 * w + k)
+  pub idle-record-zero : (cs : List Call) → Run (start ws p m n q c) cs → (w : ℕ) → w < p
+      → getD (words-after (start ws p m n q c) cs) (16 + 16 * w) 0 ≡ 0
+      → (k : ℕ) → k < 16 → Zero-at (words-after (start ws p m n q c) cs) (16 + 16 * w + k)
   idle-record-zero cs r = unused-zero cs r .idle-worker

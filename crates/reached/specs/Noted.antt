@@ -14,7 +14,7 @@ use Rattle.definitions.specs.Phases.{row-of, table}
 use Rattle.definitions.specs.Damage.{TBD}
 use Rattle.definitions.specs.Calls.{Call, outcome}
 use Rattle.history.specs.Tools.{Split, split}
-use Rattle.history.specs.Notes.{Deed, fetches, moves, Note, step-note, deed-at, note, notes, words-after}
+use Rattle.history.specs.Notes.{Deed, fetches, finds, moves, Note, step-note, deed-at, note, notes, words-after}
 use Rattle.history.specs.Notes as Notes
 use Rattle.history.specs.MachineNotes.{fetch, phase-deed, worker-line, worker-deed, machine-note, machine-notes}
 use Rattle.history.specs.Machine.{Memory, Then, then-39, then-43, then-48, then-52, then-34, then-total-34, Phase, line-37, line-39, line-41, line-43, line-45, line-46, line-48, line-50, line-51, line-52, line-5, line-6, line-32, line-34, total-32, total-34, closing, line-20, line-21, line-22, helped-item, line-number, Worker, idle, busy, Catalogue, Move, refused, stepping, move, reply}
@@ -54,6 +54,12 @@ module _ (f : Cells) (m : Memory) (own : ℕ → Owner) (w : ℕ) (X : Standing 
         ∙ stamp-test i (pred (m .item i .versions)) l (omega (arith, X .well .item-well i l .some, X .well .item-well i l .few)))
             ∙ not-not (ltb (pred (m .item i .versions)) (m .item i .valid)))
 
+  finds-same : (c : Then) (j : ℕ) → Kept (m .item) (local-of f w) (line-20 c j) → Known m (line-20 c j)
+      → finds (not (eqb (f (stamp (f (node w)))) TBD)) ≡ phase-deed m (line-20 c j)
+  finds-same c j k z =
+      ap finds (ap not (ap (λ (y : ℕ). eqb (f (stamp y)) TBD) (k .1) ∙ stamp-test (helped-item c) j (then-item m c (z .0)) (z .1))
+        ∙ not-not (ltb j (m .item (helped-item c) .valid)))
+
   stamps-same : (c : Then) (j n r : ℕ) → Kept (m .item) (local-of f w) (line-22 c j n r) → Known m (line-22 c j n r) → f (item w) ≡ helped-item c
       → cond (eqb (f (stamp (f (node w)))) TBD) (Notes.stamps (f (item w)) (f (value (f (node w))))) Notes.nothing ≡ phase-deed m (line-22 c j n r)
   stamps-same c j n r k z e =
@@ -78,15 +84,15 @@ module _ (f : Cells) (m : Memory) (own : ℕ → Owner) (w : ℕ) (X : Standing 
       → cond (eqb (f counter) (f (seen w))) (moves (f counter)) Notes.nothing ≡ phase-deed m (line-6 c r)
   moves-same c r k = ap₂ (λ (b : Bool) (d : Deed). cond b d Notes.nothing) (ap₂ eqb (X .shared .counter-is) k) (ap moves (X .shared .counter-is))
 
-  -- a help's line 20 and 21 are no deed
-  quiet-20 : (c : Then) → deed-at (row-of (help-number c)) f w ≡ Notes.nothing
+  -- a help's line 20 tells what it found, and line 21 is no deed
+  deed-20 : (c : Then) → deed-at (row-of (help-number c)) f w ≡ finds (not (eqb (f (stamp (f (node w)))) TBD))
   unfolding row-of table
-  quiet-20 (then-39 i g) = refl
-  quiet-20 (then-43 i x y g) = refl
-  quiet-20 (then-48 i x y) = refl
-  quiet-20 (then-52 i x y g) = refl
-  quiet-20 (then-34 i h g) = refl
-  quiet-20 (then-total-34 q h n i u g) = refl
+  deed-20 (then-39 i g) = refl
+  deed-20 (then-43 i x y g) = refl
+  deed-20 (then-48 i x y) = refl
+  deed-20 (then-52 i x y g) = refl
+  deed-20 (then-34 i h g) = refl
+  deed-20 (then-total-34 q h n i u g) = refl
 
   quiet-21 : (c : Then) → deed-at (row-of (help-number c + 1)) f w ≡ Notes.nothing
   unfolding row-of table
@@ -135,7 +141,7 @@ module _ (f : Cells) (m : Memory) (own : ℕ → Owner) (w : ℕ) (X : Standing 
   deed-same (total-32 q a n i u) k z h = refl
   deed-same (total-34 q a n i u g j x) k z h = refl
   deed-same (closing q a n u) k z h = refl
-  deed-same (line-20 c j) k z h = quiet-20 c
+  deed-same (line-20 c j) k z h = deed-20 c ∙ finds-same c j k z
   deed-same (line-21 c j) k z h = quiet-21 c
   deed-same (line-22 c j n r) k z h = deed-22 c ∙ stamps-same c j n r k z (kept-item c (k .0))
 
@@ -198,11 +204,11 @@ note-same ws s U F x t = at x (every-call ws s U F x t .answer-is)
 
 module _ (ws : List ℕ) (p m n q c : ℕ) (made : outcome ws (Call.make p m n q c) .answer .code ≡ 2) where
   -- The notes of a run on the words are the notes of the machine's run.
-  pub notes-agree : (cs : List Call) → Run (start ws p m n q c made) cs → notes (start ws p m n q c made) cs ≡ machine-notes (limits-of p m n q c) cs
+  pub notes-agree : (cs : List Call) → Run (start ws p m n q c) cs → notes (start ws p m n q c) cs ≡ machine-notes (limits-of p m n q c) cs
   unfolding notes machine-notes
   notes-agree [] r = refl
   notes-agree (x ∷ cs) r =
       ap₂ (λ (a : Note) (l : List Note). a ∷ l)
-        (note-same (words-after (start ws p m n q c made) cs) (machine ws p m n q c made cs) (reached-image ws p m n q c made cs (r .0))
+        (note-same (words-after (start ws p m n q c) cs) (machine ws p m n q c made cs) (reached-image ws p m n q c made cs (r .0))
             (few ws p m n q c made cs) x (r .1))
             (notes-agree cs (r .0))

@@ -14,7 +14,7 @@ use Rattle.history.specs.Notes.{words-after}
 use Rattle.history.specs.Machine.{Limits, after-calls}
 use Rattle.history.specs.StepCount.{steps-bound}
 use Rattle.reached.specs.Whole.{Limits-fit, Few-steps}
-use Rattle.reached.specs.Run.{Typed, Run-call, Words-image, Called, every-call, reached-image, limits-of, in-limits}
+use Rattle.reached.specs.Run.{Typed, Run-call, no-make-call, Words-image, Called, every-call, reached-image, limits-of, in-limits}
 use Rattle.reached.specs.Never.{damaged-code, reply-fine}
 use Rattle.reached.specs.Formed.{image-well-formed}
 
@@ -48,14 +48,14 @@ run-or-made ws (Call.make p m n q c) P t f g = at (eqb (outcome ws (Call.make p 
   where
     at : (b : Bool) → eqb (outcome ws (Call.make p m n q c) .answer .code) 2 ≡ b → P (Call.make p m n q c)
     at true e = f p m n q c (eqb-true _ _ e)
-    at false e = g (record { typed = tt; no-make = λ d. eqb-false _ _ e })
-run-or-made ws (Call.register v z) P t f g = g (record { typed = t; no-make = λ d. absurd (let z : _≡_ {A = ℕ} 0 1 = cc in omega arith) })
-run-or-made ws (Call.v-read w i) P t f g = g (record { typed = tt; no-make = λ d. absurd (let z : _≡_ {A = ℕ} 0 1 = cc in omega arith) })
-run-or-made ws (Call.v-cas w i x y) P t f g = g (record { typed = tt; no-make = λ d. absurd (let z : _≡_ {A = ℕ} 0 1 = cc in omega arith) })
-run-or-made ws (Call.take-snapshot w) P t f g = g (record { typed = tt; no-make = λ d. absurd (let z : _≡_ {A = ℕ} 0 1 = cc in omega arith) })
-run-or-made ws (Call.read-snapshot w i h) P t f g = g (record { typed = tt; no-make = λ d. absurd (let z : _≡_ {A = ℕ} 0 1 = cc in omega arith) })
-run-or-made ws (Call.total w q h) P t f g = g (record { typed = tt; no-make = λ d. absurd (let z : _≡_ {A = ℕ} 0 1 = cc in omega arith) })
-run-or-made ws (Call.step w) P t f g = g (record { typed = tt; no-make = λ d. absurd (let z : _≡_ {A = ℕ} 0 1 = cc in omega arith) })
+    at false e = g (record { typed = tt; no-make = λ p' m' n' q' c' d. eqb-false _ _ e })
+run-or-made ws (Call.register v z) P t f g = g (no-make-call ws (Call.register v z) t refl)
+run-or-made ws (Call.v-read w i) P t f g = g (no-make-call ws (Call.v-read w i) tt refl)
+run-or-made ws (Call.v-cas w i x y) P t f g = g (no-make-call ws (Call.v-cas w i x y) tt refl)
+run-or-made ws (Call.take-snapshot w) P t f g = g (no-make-call ws (Call.take-snapshot w) tt refl)
+run-or-made ws (Call.read-snapshot w i h) P t f g = g (no-make-call ws (Call.read-snapshot w i h) tt refl)
+run-or-made ws (Call.total w q h) P t f g = g (no-make-call ws (Call.total w q h) tt refl)
+run-or-made ws (Call.step w) P t f g = g (no-make-call ws (Call.step w) tt refl)
 
 pub reached-imaged : (ws : List ℕ) → Reached ws → Imaged ws
 reached-imaged ws (made old p m n q c e) = made-imaged old p m n q c e

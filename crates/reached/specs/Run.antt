@@ -1,23 +1,25 @@
 -- Every run of the words, from an accepted make, is a run of the machine: the same answers, and words that are the image of its state.
 use Prim.Native.Nat.{ℕ, _<_, _≤_}
-use mathlib.Core.Bool.{true, false}
+use mathlib.Core.Bool.{false, true≢false}
 use mathlib.Core.List.{List, [], _∷_}
 use mathlib.Core.Logic.{_≢_, inl}
 use mathlib.Core.Path.{_≡_, refl, ap, sym, _∙_, subst}
 use native.Mathlib.Omega.{arith}
 use lib.Dec.{ltb}
-use lib.ListN.{length, getD}
+use lib.ListN.{length}
 use borrow.Author.Tests.{ltb-false}
-use Rattle.definitions.specs.Cells.{needed, Cell, Cells, workers, items-limit, nodes-limit, projects, counter-limit, counter, items, used, given-back, phase, value, older, stamp, cells-of}
+use Rattle.definitions.specs.Cells.{Cell, Cells, workers, items-limit, nodes-limit, projects, counter-limit, counter, items, used, given-back, phase,
+    value, older, stamp, cells-of}
 use Rattle.definitions.specs.Answers.{refusal}
 use Rattle.definitions.specs.Damage.{any-of, outside, sizes-outside, header-damaged}
 use Rattle.definitions.specs.Calls.{Call, Result, outcome, leaving}
-use Rattle.cells.specs.Stands.{Stands, place-below, stands-as}
+use Rattle.cells.specs.Stands.{Stands, stands-as}
 use Rattle.cells.specs.Update.{after, after-size}
-use Rattle.cells.specs.Words.{Sized, Left, leaves, shows-own}
+use Rattle.cells.specs.Words.{Sized, Left, leaves}
 use Rattle.cells.specs.Made.{comes-to, is-make, outcome-comes, Fresh, made, made-sized, made-fresh, Accepted, make-accepts, make-refuses}
 use Rattle.cells.specs.Spares.{none-at, first-false, second-false}
 use Rattle.history.specs.Notes.{words-after}
+pub use Rattle.history.specs.Notes.{Typed, Run-call, Run, start}
 use Rattle.history.specs.Machine.{Limits, Catalogue, fresh, tick, move, call, reply, after-calls}
 use Rattle.history.specs.StepCount.{steps-bound}
 use Rattle.reached.specs.Parts.{shared-of}
@@ -29,26 +31,9 @@ use Rattle.reached.specs.Step.{step-image}
 use Rattle.reached.specs.Start.{v-read-image, v-cas-image, take-snapshot-image, read-snapshot-image, total-image}
 use Rattle.reached.specs.Register.{register-call}
 
--- The arguments of a call are numbers of their types. No refusal tests a register's size, which is any 32-bit number.
-abbrev pub Typed : Call → Type 0
-Typed (Call.make p m n q c) = Unit {0}
-Typed (Call.register v s) = s < 4294967296
-Typed (Call.v-read w i) = Unit {0}
-Typed (Call.v-cas w i old new) = Unit {0}
-Typed (Call.take-snapshot w) = Unit {0}
-Typed (Call.read-snapshot w i h) = Unit {0}
-Typed (Call.total w q h) = Unit {0}
-Typed (Call.step w) = Unit {0}
-
--- A call of a run is not an accepted make.
-pub record Run-call (ws : List ℕ) (x : Call) : Type 0 where
-  pub typed : Typed x
-  pub no-make : is-make x ≡ true → outcome ws x .answer .code ≢ 2
-
--- A run on words: calls, the newest first.
-abbrev pub Run : List ℕ → List Call → Type 0
-Run ws [] = Unit {0}
-Run ws (x ∷ cs) = Run ws cs × Run-call (words-after ws cs) x
+-- A call that is no make.
+pub no-make-call : (ws : List ℕ) (x : Call) → Typed x → is-make x ≡ false → Run-call ws x
+no-make-call ws x t e = record { typed = t; no-make = λ p m n q c d. absurd (true≢false (sym (ap is-make d) ∙ e)) }
 
 -- The words are the image of the machine's state.
 pub record Words-image (ws : List ℕ) (s : Catalogue) : Type 0 where
@@ -140,7 +125,7 @@ make-call ws s U p m n q c t =
       as-many = ap (λ (r : Result). length (r .words)) is }
   where
     is : outcome ws (Call.make p m n q c) ≡ record { answer = refusal 1 0; words = ws }
-    is = make-refuses ws p m n q c (t .no-make refl)
+    is = make-refuses ws p m n q c (t .no-make p m n q c refl)
 
 pub every-call : (ws : List ℕ) (s : Catalogue) → Words-image ws s → Few-steps (s .worker) → (x : Call) → Run-call ws x → Called ws s x
 every-call ws s U F (Call.make p m n q c) t = make-call ws s U p m n q c t
@@ -151,22 +136,6 @@ every-call ws s U F (Call.take-snapshot w) t = other-call ws s U F (Call.take-sn
 every-call ws s U F (Call.read-snapshot w i h) t = other-call ws s U F (Call.read-snapshot w i h) tt refl
 every-call ws s U F (Call.total w q h) t = other-call ws s U F (Call.total w q h) tt refl
 every-call ws s U F (Call.step w) t = other-call ws s U F (Call.step w) tt refl
-
--- Other words that hold the same catalogue, the needed words being equal, are the image of the same state: what comes after does not tell them apart.
-pub same-needed : (ws ws' : List ℕ) (s : Catalogue) → Words-image ws s
-    → needed (s .memory .limits .workers) (s .memory .limits .items) (s .memory .limits .nodes) ≤ length ws'
-    → ((k : ℕ) → k < needed (s .memory .limits .workers) (s .memory .limits .items) (s .memory .limits .nodes) → getD ws' k 0 ≡ getD ws k 0)
-        → Words-image ws' s
-same-needed ws ws' s U enough same = record { sized = sized'; image = image-agree (cells-of ws) (cells-of ws') s agrees (U .image) }
-  where
-    sized' : Sized (s .memory .limits .workers) (s .memory .limits .items) (s .memory .limits .nodes) ws'
-    sized' = record {
-      workers-are = same 0 (omega arith) ∙ U .sized .workers-are; items-are = same 1 (omega arith) ∙ U .sized .items-are;
-      nodes-are = same 2 (omega arith) ∙ U .sized .nodes-are; enough = enough }
-    agrees : Agree (s .memory .limits) (cells-of ws) (cells-of ws')
-    agrees c h =
-        sym (shows-own _ _ _ ws' sized' c h) ∙ same _ (place-below (s .memory .limits .workers) (s .memory .limits .items) (s .memory .limits .nodes) c h)
-            ∙ shows-own _ _ _ ws (U .sized) c h
 
 -- ---- from an accepted make
 
@@ -214,9 +183,8 @@ fresh-image p m n q c f fit F = record {
     zero-at d h l = F .rest-zero d h l
 
 module _ (ws : List ℕ) (p m n q c : ℕ) (accepted : outcome ws (Call.make p m n q c) .answer .code ≡ 2) where
-  -- the words on which make was just accepted
-  abbrev pub start : List ℕ
-  start = outcome ws (Call.make p m n q c) .words
+  abbrev begun : List ℕ
+  begun = start ws p m n q c
   abbrev pub machine : List Call → Catalogue
   machine cs = after-calls (limits-of p m n q c) cs
 
@@ -227,7 +195,7 @@ module _ (ws : List ℕ) (p m n q c : ℕ) (accepted : outcome ws (Call.make p m
   pub in-limits : Limits-fit (limits-of p m n q c)
   in-limits = limits-fit p m n q c (accepted-make .in-range)
 
-  start-image : Words-image start (fresh (limits-of p m n q c))
+  start-image : Words-image begun (fresh (limits-of p m n q c))
   unfolding fresh
   start-image = subst (λ (x : List ℕ). Words-image x (fresh (limits-of p m n q c))) (sym (accepted-make .leaves)) (record {
     sized = made-sized ws p m n q c;
@@ -238,18 +206,19 @@ module _ (ws : List ℕ) (p m n q c : ℕ) (accepted : outcome ws (Call.make p m
   few cs = steps-bound (limits-of p m n q c) (in-limits .items-in .1) (in-limits .nodes-in .1) cs
 
   -- After any run the words are the image of the machine's state after the same calls,
-  pub reached-image : (cs : List Call) → Run start cs → Words-image (words-after start cs) (machine cs)
+  pub reached-image : (cs : List Call) → Run begun cs → Words-image (words-after begun cs) (machine cs)
   unfolding words-after after-calls
   reached-image [] r = start-image
-  reached-image (x ∷ cs) r = every-call (words-after start cs) (machine cs) (reached-image cs (r .0)) (few cs) x (r .1) .words-are
+  reached-image (x ∷ cs) r = every-call (words-after begun cs) (machine cs) (reached-image cs (r .0)) (few cs) x (r .1) .words-are
 
   -- every answer is the machine's,
-  pub answers-agree : (cs : List Call) → Run start cs → (x : Call) → Run-call (words-after start cs) x
-      → outcome (words-after start cs) x .answer ≡ reply (machine cs) x
-  answers-agree cs r x t = every-call (words-after start cs) (machine cs) (reached-image cs r) (few cs) x t .answer-is
+  pub answers-agree : (cs : List Call) → Run begun cs → (x : Call) → Run-call (words-after begun cs) x
+      → outcome (words-after begun cs) x .answer ≡ reply (machine cs) x
+  answers-agree cs r x t = every-call (words-after begun cs) (machine cs) (reached-image cs r) (few cs) x t .answer-is
 
   -- and the lent words stay as many.
-  pub as-many-words : (cs : List Call) → Run start cs → length (words-after start cs) ≡ length start
+  pub as-many-words : (cs : List Call) → Run begun cs → length (words-after begun cs) ≡ length begun
   unfolding words-after
   as-many-words [] r = refl
-  as-many-words (x ∷ cs) r = every-call (words-after start cs) (machine cs) (reached-image cs (r .0)) (few cs) x (r .1) .as-many ∙ as-many-words cs (r .0)
+  as-many-words (x ∷ cs) r =
+      every-call (words-after begun cs) (machine cs) (reached-image cs (r .0)) (few cs) x (r .1) .as-many ∙ as-many-words cs (r .0)
