@@ -71,11 +71,9 @@ static void fresh(size_t count) {
   goravesha_make(words, count, 2, 2, 8, 4, 16, &answer);
 }
 
-int main(void) {
-  const size_t count = GORAVESHA_WORDS(2, 2, 8);
+/* Words that hold no catalogue, and too few words. */
+static void no_catalogue(size_t count) {
   const uint32_t damaged = GORAVESHA_REFUSED + 2;
-  listing(count);
-
   memset(words, 0xff, sizeof words);
   for (int which = 0; which < CALLS; which++) expect("all ones", which, count, damaged);
   memset(words, 0, sizeof words);
@@ -86,46 +84,57 @@ int main(void) {
     expect_make(few, 1, 1, 1, 1, 1, GORAVESHA_REFUSED + 1);
   }
   expect_make(count - 1, 2, 2, 8, 4, 16, GORAVESHA_REFUSED + 1);
+}
 
-  /* Each header word at 0, at its limit and one past it: sizes with their own limits, the rest with the limits that the header gives. A P, M or N at
-     its limit asks for more words than are lent here. What is accepted is no damage; 'accepted' stands for a call that changes words. */
-  enum { ok = GORAVESHA_ACCEPTED, no2 = 18, no5 = 21, no6 = 22, no8 = 24, no10 = 26, no11 = 27 };
-  static const uint32_t limit[9] = {64, 256, 4096, 256, 4294967294u, 16, 2, 8, 0};
-  static const uint32_t at_zero[9][CALLS] = {
-      {no2, no2, no2, no2, no2, no2, no2}, {no2, no2, no2, no2, no2, no2, no2}, {no2, no2, no2, no2, no2, no2, no2},
-      {no2, no2, no2, no2, no2, no2, no2}, {no2, no2, no2, no2, no2, no2, no2}, {ok, no6, no6, ok, no6, no8, no5},
-      {ok, no6, no6, ok, no6, no8, no5},   {ok, no6, no6, ok, no6, no8, no5},   {ok, no6, no6, ok, no6, no8, no5}};
-  static const uint32_t at_limit[9][CALLS] = {
-      {no2, no2, no2, no2, no2, no2, no2}, {no2, no2, no2, no2, no2, no2, no2},  {no2, no2, no2, no2, no2, no2, no2},
-      {ok, no6, no6, ok, no6, no8, no5},   {ok, no6, no6, ok, no6, no8, no5},    {ok, no6, no6, ok, no6, ok, no5},
-      {no10, no2, no2, ok, no2, no8, no5}, {no11, no6, no6, ok, no6, no8, no5}, {ok, no6, no6, ok, no6, no8, no5}};
-  for (int word = 0; word < 9; word++) {
+/* Each header word at 0, at its limit and one past it: sizes with their own limits, the rest with the limits that the header gives. A P, M or N at
+   its limit asks for more words than are lent here. What is accepted is no damage; 'accepted' stands for a call that changes words. */
+enum { HEADER = 9, ok = GORAVESHA_ACCEPTED, no2 = 18, no5 = 21, no6 = 22, no8 = 24, no10 = 26, no11 = 27 };
+static const uint32_t limit[HEADER] = {64, 256, 4096, 256, 4294967294u, 16, 2, 8, 0};
+static const uint32_t at_zero[HEADER][CALLS] = {
+    {no2, no2, no2, no2, no2, no2, no2}, {no2, no2, no2, no2, no2, no2, no2}, {no2, no2, no2, no2, no2, no2, no2},
+    {no2, no2, no2, no2, no2, no2, no2}, {no2, no2, no2, no2, no2, no2, no2}, {ok, no6, no6, ok, no6, no8, no5},
+    {ok, no6, no6, ok, no6, no8, no5},   {ok, no6, no6, ok, no6, no8, no5},   {ok, no6, no6, ok, no6, no8, no5}};
+static const uint32_t at_limit[HEADER][CALLS] = {
+    {no2, no2, no2, no2, no2, no2, no2}, {no2, no2, no2, no2, no2, no2, no2},  {no2, no2, no2, no2, no2, no2, no2},
+    {ok, no6, no6, ok, no6, no8, no5},   {ok, no6, no6, ok, no6, no8, no5},    {ok, no6, no6, ok, no6, ok, no5},
+    {no10, no2, no2, ok, no2, no8, no5}, {no11, no6, no6, ok, no6, no8, no5}, {ok, no6, no6, ok, no6, no8, no5}};
+
+static void with_header_word(const char *what, size_t count, int word, uint32_t value, int which, uint32_t code) {
+  fresh(count);
+  words[word] = value;
+  expect(what, which, count, code);
+}
+
+static void header_words(size_t count) {
+  for (int word = 0; word < HEADER; word++) {
     for (int which = 0; which < CALLS; which++) {
-      fresh(count);
-      words[word] = limit[word] + 1;
-      expect("past the limit", which, count, damaged);
-      fresh(count);
-      words[word] = 0;
-      expect("zero", which, count, at_zero[word][which]);
-      fresh(count);
-      words[word] = limit[word];
-      expect("at the limit", which, count, at_limit[word][which]);
+      with_header_word("past the limit", count, word, limit[word] + 1, which, no2);
+      with_header_word("zero", count, word, 0, which, at_zero[word][which]);
+      with_header_word("at the limit", count, word, limit[word], which, at_limit[word][which]);
     }
   }
+}
 
-  /* The sizes that make takes, and those one past them. */
+/* The sizes that make takes, and those one past them. The first five header words are these sizes. */
+static void sizes(void) {
   const size_t all = sizeof words / sizeof words[0];
-  static const uint32_t most[5] = {64, 256, 4096, 256, 4294967294u};
   for (int which = 0; which < 5; which++) {
     uint32_t size[5] = {1, 1, 1, 1, 1};
     size[which] = 0;
     expect_make(all, size[0], size[1], size[2], size[3], size[4], GORAVESHA_REFUSED + 1);
-    size[which] = most[which] + 1;
+    size[which] = limit[which] + 1;
     expect_make(all, size[0], size[1], size[2], size[3], size[4], GORAVESHA_REFUSED + 1);
-    size[which] = most[which];
+    size[which] = limit[which];
     expect_make(all, size[0], size[1], size[2], size[3], size[4], GORAVESHA_ACCEPTED);
   }
+}
 
+int main(void) {
+  const size_t count = GORAVESHA_WORDS(2, 2, 8);
+  listing(count);
+  no_catalogue(count);
+  header_words(count);
+  sizes();
   if (wrong) {
     fprintf(stderr, "page: %u answers were wrong\n", wrong);
     return EXIT_FAILURE;

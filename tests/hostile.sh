@@ -10,5 +10,7 @@ target/host/hostile -s 4 -x "$seed" > target/host/hostile.sanitized || { tail -n
 CFLAGS=-g bash host/build.sh hostile archive oracle tables
 if command -v valgrind > /dev/null; then
   valgrind -q --error-exitcode=9 target/host/hostile -n 400000 -x "$seed" > target/host/hostile.valgrind || { tail -n 40 target/host/hostile.valgrind; exit 1; }
+else
+  echo "not tested: the hostile test under valgrind, since there is no valgrind here"
 fi
 target/host/hostile -s "$seconds" -x "$seed"

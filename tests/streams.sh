@@ -1,5 +1,6 @@
 #!/bin/bash
-# How schedule reads and writes: empty input, no last line feed, one byte at a time, a line of a megabyte, an output that cannot be written.
+# How schedule reads and writes: empty input, no last line feed, one byte at a time, a line of a megabyte, an output that cannot be written,
+# an input that cannot be read on.
 # usage: tests/streams.sh [PROGRAM]
 cd "$(dirname "$0")/.." || exit 2
 program=${1:-target/bin/schedule}
@@ -22,6 +23,14 @@ text = sys.stdin.buffer.read()
 at, size = 0, 1
 while at < len(text):
     os.write(1, text[at:at + size]); at += size; size = size * 7 % 9973 + 1'
+}
+broken_off() { # the program on a pipe that gives this text, and then fails to be read: it does not wait, and its other end is open
+    python3 -c 'import os, subprocess, sys
+reads, writes = os.pipe()
+os.set_blocking(reads, False)
+os.write(writes, sys.argv[2].encode())
+ran = subprocess.run([sys.argv[1]], stdin=reads, stdout=subprocess.PIPE, stderr=subprocess.STDOUT, timeout=60)
+sys.stdout.buffer.write(ran.stdout)' "$program" "$1" | tr '\n' ' '
 }
 
 expect "empty input" "$("$program" < /dev/null)" ""
@@ -47,5 +56,9 @@ if [ -e /dev/full ]; then
 fi
 expect "a closed output" "$("$program" < $sample.in 2>&1 >&-)" "schedule: standard output cannot be written"
 expect "an input that cannot be read" "$("$program" < . 2>&1)" "schedule: standard input cannot be read"
+unread="schedule: standard input cannot be read "
+expect "a read that fails after a whole line" "$(broken_off $'080000\n')" "1200000000000000000000 $unread"
+expect "a read that fails in a line" "$(broken_off $'080000\n0800')" "1200000000000000000000 $unread"
+expect "a read that fails in the first line" "$(broken_off 080000)" "$unread"
 
 if [ "$failed" = 0 ]; then echo "streams: all passed"; else echo "streams: $failed failed"; exit 1; fi

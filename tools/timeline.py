@@ -4,12 +4,17 @@
 A picture of a schedule, for support: the program schedule's frames in, an SVG timeline out. A row for each worker; a box for each step with its line number of
 Algorithm 1; an orange box where a change took effect (the line 21 whose line 22 stamped the node), a green line where the counter left a handle.
 It runs document 01's steps itself (Python's standard library only) and asks nothing of the program; frames it cannot read, and refused calls, are passed over.
+Only the last catalogue is drawn: a make that is not refused starts the picture anew. Where nothing can be read, drawn or written it says so in a line
+on standard error and ends with status 1.
 """
+import re
 import sys
 from html import escape
 
 TBD = 0xFFFFFFFF
 ARGUMENTS = {1: 5, 2: 2, 3: 2, 4: 4, 5: 1, 6: 3, 7: 3, 8: 1}
+LENT = 16384
+MOST = (64, 256, 4096, 256, 4294967294)
 
 
 class Run:
@@ -157,19 +162,23 @@ class Run:
 
 def frames(text):
     for line in text.split("\n"):
-        try:
-            operation, arguments = int(line[:2], 16), [int(line[i : i + 4], 16) for i in range(2, len(line), 4)]
-        except ValueError:
+        if not re.fullmatch("[0-9a-f]{2,64}", line):
             continue
+        operation = int(line[:2], 16)
         if len(line) == 2 + 4 * ARGUMENTS.get(operation, -1):
-            yield operation, arguments
+            yield operation, [int(line[i : i + 4], 16) for i in range(2, len(line), 4)]
+
+
+def can_be_made(p, m, n, q, c):
+    """Whether make is not refused: each size in its range, and no more words needed than the program lends."""
+    return all(1 <= size <= most for size, most in zip((p, m, n, q, c), MOST)) and 16 + 16 * p + 4 * m + 3 * n <= LENT
 
 
 def run_of(text):
     run = None
     for operation, arguments in frames(text):
         if operation == 1:
-            run = Run(*arguments)
+            run = Run(*arguments) if can_be_made(*arguments) else run
         elif run is not None and operation == 2:
             run.register(*arguments)
         elif run is not None and operation == 8:
@@ -209,10 +218,20 @@ def picture(run):
 
 
 def main():
-    run = run_of(sys.stdin.read())
+    # by descriptor: one that is closed, or fails, is then an OSError and not a traceback
+    try:
+        with open(0, "rb", closefd=False) as given:
+            text = given.read().decode("latin-1")
+    except OSError:
+        sys.exit("timeline: standard input cannot be read")
+    run = run_of(text)
     if run is None:
         sys.exit("timeline: no make among the frames")
-    print("\n".join(picture(run)))
+    try:
+        with open(1, "wb", closefd=False) as out:
+            out.write(("\n".join(picture(run)) + "\n").encode())
+    except OSError:
+        sys.exit("timeline: standard output cannot be written")
 
 
 main()

@@ -8,7 +8,7 @@ missing=()
 for package in "${needed[@]}"; do dpkg -s "$package" > /dev/null 2>&1 || missing+=("$package"); done
 if [ ${#missing[@]} -gt 0 ] && [ "$(id -u)" = 0 ]; then apt-get install -y "${missing[@]}" > /dev/null; fi
 archive=target/staticlib/libcatalogue.a
-[ -f "$archive" ] || rt staticlib catalogue > /dev/null
+bash host/archive.sh
 out=target/bench
 mkdir -p "$out"
 flags=(-std=gnu11 -Wall -Wextra -Iinclude)

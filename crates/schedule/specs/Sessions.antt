@@ -4,6 +4,7 @@ use Prim.Native.Nat.{ℕ, _≤_}
 use mathlib.Core.Bool.{true, true≢false}
 use mathlib.Core.List.{List, [], _++_}
 use native.Mathlib.Omega.{arith}
+use lib.IntN.{ℤ}
 use lib.ListN.{length, take}
 use lib.Seq.{sets-eq, take-at}
 use Rattle.frames.specs.Lines.{whole-lines, unfinished}
@@ -11,7 +12,7 @@ use Rattle.text.specs.Replies.{answers, words-after, frames-of}
 use Rattle.text.specs.Feeding.{kept, frames-in, last-frame, Piece}
 use Rattle.text.specs.Pieces.{answers-append, after-append, frames-on, kept-on, frames-at-end}
 use Rattle.schedule.specs.declared.Turn.{Turn}
-use Rattle.schedule.specs.Turns.{Turned, went-on, ended}
+use Rattle.schedule.specs.Turns.{After, unread, ended, went-on, Turned}
 
 -- Between turns, from words ws₀: the words and what is kept are those of a text, all that was read.
 pub record Session (ws₀ ws k : List ℕ) : Type 0 where
@@ -19,7 +20,7 @@ pub record Session (ws₀ ws k : List ℕ) : Type 0 where
   pub words : ws ≡ words-after ws₀ (frames-in text)
   pub keeps : k ≡ kept text
 
--- A run has ended: all lines of the text were carried out, or its whole lines where the output could not be written.
+-- A run has ended: all lines of the text were carried out, or its whole lines alone (where the input could not be read or the output not be written).
 pub data Ran (ws₀ ws′ : List ℕ) : Type 0 where
   to-the-end : (text : List ℕ) → ws′ ≡ words-after ws₀ (frames-of text) → Ran ws₀ ws′
   broken-off : (text : List ℕ) → ws′ ≡ words-after ws₀ (frames-in text) → Ran ws₀ ws′
@@ -65,15 +66,24 @@ module _ (ws₀ ws k : List ℕ) (s : Session ws₀ ws k) where
       ∙ ap (λ (l : List ℕ). answers ws₀ (frames-in (s .text)) ++ answers ws (frames-in (l ++ p))) (sym (s .keeps))
       ∙ ap (λ (l : List ℕ). answers ws₀ (frames-in (s .text)) ++ l) (sym front)
 
-  -- one turn of the loop, and the two ways out of it
+  goes-on : (got : ℤ) (z out : List ℕ) (r : Turn) (bytes′ ws′ out′ : List ℕ) → After got k z ws out r bytes′ ws′ out′ → r .«goes_on» ≡ true
+      → Session ws₀ ws′ (take (r .held) bytes′)
+  goes-on got z out r bytes′ ws′ out′ (unread n g e c w o) h = absurd (true≢false (sym h ∙ e))
+  goes-on got z out r bytes′ ws′ out′ (ended g e l) h = absurd (true≢false (sym h ∙ e))
+  goes-on got z out r bytes′ ws′ out′ (went-on n g piece) h = session-on _ out r bytes′ ws′ out′ piece
+
+  leaves-off : (got : ℤ) (z out : List ℕ) (r : Turn) (bytes′ ws′ out′ : List ℕ) → After got k z ws out r bytes′ ws′ out′ → Ran ws₀ ws′
+  leaves-off got z out r bytes′ ws′ out′ (unread n g e c w o) = broken-off (s .text) (w ∙ s .words)
+  leaves-off got z out r bytes′ ws′ out′ (ended g e l) = to-the-end (s .text) (l .leaves ∙ at-end)
+  leaves-off got z out r bytes′ ws′ out′ (went-on n g piece) = broken-off (s .text ++ _) (piece .leaves ∙ on-words _)
+
+  -- one turn of the loop, and the ways out of it
   pub next-turn : (out : List ℕ) (r : Turn) (bytes′ ws′ out′ : List ℕ) → Turned k ws out r bytes′ ws′ out′ → r .«goes_on» ≡ true
       → Session ws₀ ws′ (take (r .held) bytes′)
-  next-turn out r bytes′ ws′ out′ (went-on p piece) h = session-on p out r bytes′ ws′ out′ piece
-  next-turn out r bytes′ ws′ out′ (ended e l) h = absurd (true≢false (sym h ∙ e))
+  next-turn out r bytes′ ws′ out′ t h = goes-on (t .got) (t .z) out r bytes′ ws′ out′ (t .after) h
 
   pub last-turn : (out : List ℕ) (r : Turn) (bytes′ ws′ out′ : List ℕ) → Turned k ws out r bytes′ ws′ out′ → Ran ws₀ ws′
-  last-turn out r bytes′ ws′ out′ (went-on p piece) = broken-off (s .text ++ p) (piece .leaves ∙ on-words p)
-  last-turn out r bytes′ ws′ out′ (ended e l) = to-the-end (s .text) (l .leaves ∙ at-end)
+  last-turn out r bytes′ ws′ out′ t = leaves-off (t .got) (t .z) out r bytes′ ws′ out′ (t .after)
 
   pub turns-spent : Ran ws₀ ws
   turns-spent = broken-off (s .text) (s .words)

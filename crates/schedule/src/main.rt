@@ -8,7 +8,7 @@ ghost use mathlib.Core.List.{_++_};
 ghost use lib.ListN.{length, take, drop};
 ghost use Rattle.text.specs.Feeding.{Piece, Last};
 ghost use Rattle.text.specs.Replies.{lent};
-ghost use Rattle.schedule.specs.Turns.{Turned};
+ghost use Rattle.schedule.specs.Turns.{After, Turned};
 ghost use Rattle.schedule.specs.Sessions.{Ran};
 
 // What a turn came to: how many bytes wait for their line feed, how many bytes of answers were written, and whether the input goes on.
@@ -49,15 +49,17 @@ fn answer(bytes: &mut [u8], held: usize, count: usize, words: &mut [u32], out: &
     Turn { held: kept.held, written, goes_on }
 }
 
-// One read after what is held.
-fn take_turn(bytes: &mut [u8], held: usize, words: &mut [u32], out: &mut [u8]) -> Turn
+// What a read comes to that answered `got`: the whole lines are answered, at the end of the input (0) the last line. Where it failed nothing more is
+// answered, since what is held may be a part of a line.
+fn after_read(got: isize, bytes: &mut [u8], held: usize, words: &mut [u32], out: &mut [u8]) -> Turn
     requires { ⌜ (length (now bytes) ≡ 16384) × (length (now out) ≡ 376832) × (held ≤ 65) ⌝ }
     ensures { λ r. ⌜ (r .held ≤ 65)
-        × Turned (take held (now (bytes .entry))) (now (words .entry)) (now (out .entry)) r (now (bytes .exit)) (now (words .exit)) (now (out .exit)) ⌝ }
+        × After got (take held (now (bytes .entry))) (drop held (now (bytes .entry))) (now (words .entry)) (now (out .entry))
+        r (now (bytes .exit)) (now (words .exit)) (now (out .exit)) ⌝ }
 {
-    let got = libc::read(STDIN_FILENO, &mut bytes[held..]);
     if got < 0 {
         io::write_all(STDERR_FILENO, b"schedule: standard input cannot be read\n");
+        return Turn { held: 0, written: 0, goes_on: false };
     }
     let count = io::count(got, &bytes[held..]);
     if count == 0 {
@@ -67,7 +69,17 @@ fn take_turn(bytes: &mut [u8], held: usize, words: &mut [u32], out: &mut [u8]) -
     answer(bytes, held, count, words, out)
 }
 
-// Turns until the input ends or the output cannot be written.
+// One read after what is held.
+fn take_turn(bytes: &mut [u8], held: usize, words: &mut [u32], out: &mut [u8]) -> Turn
+    requires { ⌜ (length (now bytes) ≡ 16384) × (length (now out) ≡ 376832) × (held ≤ 65) ⌝ }
+    ensures { λ r. ⌜ (r .held ≤ 65)
+        × Turned (take held (now (bytes .entry))) (now (words .entry)) (now (out .entry)) r (now (bytes .exit)) (now (words .exit)) (now (out .exit)) ⌝ }
+{
+    let got = libc::read(STDIN_FILENO, &mut bytes[held..]);
+    after_read(got, bytes, held, words, out)
+}
+
+// Turns until the input ends or cannot be read, or the output cannot be written.
 fn run(bytes: &mut [u8], words: &mut [u32], out: &mut [u8])
     requires { ⌜ (length (now bytes) ≡ 16384) × (length (now out) ≡ 376832) ⌝ }
     ensures { λ _. ⌜ Ran (now (words .entry)) (now (words .exit)) ⌝ }

@@ -1,5 +1,6 @@
 // soak SEED ROUNDS: draws calls by document 01's generator, makes each on the code and on the model, and compares every
 // answer. The report is a function of the two arguments.
+mod arguments;
 mod both;
 mod longest;
 mod play;
@@ -9,42 +10,6 @@ use tally::notes::{put, NOTES, ROUNDS, SEED, STATE};
 
 const LENT: usize = 16384;
 const LOG: usize = 312000;
-const DEFAULT_SEED: u64 = 0;
-const DEFAULT_ROUNDS: u64 = 10000000;
-
-// One more decimal digit of an argument; what is no digit, or too much, changes nothing.
-fn with_digit(number: u64, byte: u8) -> u64 {
-    if 1000000000000 < number {
-        return number;
-    }
-    if byte < 48 {
-        return number;
-    }
-    if 57 < byte {
-        return number;
-    }
-    number * 10 + (byte - 48) as u64
-}
-
-fn number_in(text: &[u8]) -> u64 {
-    let mut number: u64 = 0;
-    let mut i = 0;
-    while i < text.len() {
-        number = with_digit(number, text[i]);
-        i += 1;
-    }
-    number
-}
-
-// Argument i as a number, or what stands in for it where it is missing.
-fn argument(i: usize, otherwise: u64) -> u64 {
-    let mut text = io::buffer();
-    let n = os::arg(i, &mut text);
-    if os::errno() != 0 {
-        return otherwise;
-    }
-    number_in(&text[..n])
-}
 
 // A line on standard error, every few seconds of a long run.
 fn tell_progress(tally: &[u64], left: u64) {
@@ -72,12 +37,23 @@ fn soak(words: &mut [u32], memory: &mut [usize], log: &mut [u32], tally: &mut [u
     tally::report::report(tally);
 }
 
-fn main() {
+fn run(seed: u64, rounds: u64) {
     let mut words = [0u32; LENT];
     let mut memory = [0usize; MEMORY];
     let mut log = [0u32; LOG];
     let mut tally = [0u64; NOTES];
-    let seed = argument(1, DEFAULT_SEED);
-    let rounds = argument(2, DEFAULT_ROUNDS);
     soak(&mut words, &mut memory, &mut log, &mut tally, seed, rounds);
+}
+
+fn main() {
+    if arguments::help_asked() {
+        arguments::print_usage();
+        return;
+    }
+    let given = arguments::read();
+    if !given.good {
+        arguments::complain();
+        return;
+    }
+    run(given.seed, given.rounds);
 }
