@@ -6,6 +6,7 @@ use lines::help::{fetch_head, line_20, line_21, line_22};
 use lines::snapshot::{line_5, line_6};
 use lines::vread::line_39;
 use tables::damage::kept_at_line_is_damaged;
+use tables::phases::{TAKE_SNAPSHOT, TOTAL};
 use walk::total::{closing_step, line_34, total_32};
 ghost use mathlib.Core.Path.{_≡_};
 ghost use Rattle.lines.specs.Stepped.{Steps};
@@ -30,7 +31,7 @@ fn run_line_32(words: &mut [u32], items_at: usize, nodes_at: usize, w: usize, ro
     requires { ⌜ Fit «items_at» «nodes_at» w row (now words) × (row .operation ≡ 3 → ⊥) × (row .line ≡ 32) ⌝ }
     ensures { λ r. ⌜ Steps (line-32-of (row .operation)) «items_at» «nodes_at» w (now (words .entry)) r (now (words .exit)) ⌝ }
 {
-    if row.operation == 5 {
+    if row.operation == TOTAL {
         return total_32(words, items_at, nodes_at, w);
     }
     fetch_head(words, items_at, nodes_at, w)
@@ -132,7 +133,7 @@ pub fn run_row(words: &mut [u32], items_at: usize, nodes_at: usize, w: usize, ro
     requires { ⌜ Fit «items_at» «nodes_at» w row (now words) × (row .operation ≡ 0 → ⊥) × (row .operation ≡ 3 → (row .line ≡ 5 → ⊥) → row .line ≡ 6) × ((row .operation ≡ 3 → ⊥) → row .line ≡ 6 → ⊥) ⌝ }
     ensures { λ r. ⌜ Row-steps row (by-row row) «items_at» «nodes_at» w (now (words .entry)) r (now (words .exit)) ⌝ }
 {
-    if row.operation == 3 {
+    if row.operation == TAKE_SNAPSHOT {
         return run_snapshot_line(words, items_at, nodes_at, w, row);
     }
     run_numbered_line(words, items_at, nodes_at, w, row)

@@ -3,6 +3,7 @@ use definitions::Answer;
 use lines::endings::{refuse, write_record};
 use tables::damage::{header_is_damaged, item_is_damaged, worker_is_damaged};
 use tables::fields::{BIRTH, COUNTER, HEADER_WORDS, ITEMS, ITEM_WORDS, PHASE, PROJECTS, WORKERS, WORKER_WORDS};
+use tables::phases::{CLOSING_PHASE, READ_SNAPSHOT_START, TAKE_SNAPSHOT_START, TOTAL_START, V_CAS_START, V_READ_START};
 ghost use mathlib.Core.Path.{_≡_};
 ghost use mathlib.Core.Bool.{not};
 ghost use Prim.Native.Nat.{ℕ, _<_};
@@ -84,7 +85,7 @@ pub fn start_vread(words: &mut [u32], worker: u32, item: u32) -> Answer
     if item_number != 0 {
         return refuse(item_number);
     }
-    write_record(words, worker as usize, 1, item, 0, 0, 0, 0, 0);
+    write_record(words, worker as usize, V_READ_START, item, 0, 0, 0, 0, 0);
     accept(0)
 }
 
@@ -102,7 +103,7 @@ pub fn start_vcas(words: &mut [u32], worker: u32, item: u32, old: u32, new: u32)
     if (words[PROJECTS] <= old) | (words[PROJECTS] <= new) {
         return refuse(7);
     }
-    write_record(words, worker as usize, 6, item, old, new, 0, 0, 0);
+    write_record(words, worker as usize, V_CAS_START, item, old, new, 0, 0, 0);
     accept(0)
 }
 
@@ -113,7 +114,7 @@ pub fn start_take_snapshot(words: &mut [u32], worker: u32) -> Answer
         let number = worker_refusal(words, worker);
         return refuse(number);
     }
-    write_record(words, worker as usize, 23, 0, 0, 0, 0, 0, 0);
+    write_record(words, worker as usize, TAKE_SNAPSHOT_START, 0, 0, 0, 0, 0, 0);
     accept(0)
 }
 
@@ -135,7 +136,7 @@ pub fn start_read_snapshot(words: &mut [u32], worker: u32, item: u32, handle: u3
     if handle < words[items_at + ITEM_WORDS * (item as usize) + BIRTH] {
         return refuse(9);
     }
-    write_record(words, worker as usize, 25, item, 0, 0, handle, 0, 0);
+    write_record(words, worker as usize, READ_SNAPSHOT_START, item, 0, 0, handle, 0, 0);
     accept(0)
 }
 
@@ -155,9 +156,9 @@ pub fn start_total(words: &mut [u32], worker: u32, project: u32, handle: u32) ->
     }
     let items = words[ITEMS];
     if items == 0 {
-        write_record(words, worker as usize, 35, 0, 0, 0, handle, project, items);
+        write_record(words, worker as usize, CLOSING_PHASE, 0, 0, 0, handle, project, items);
         return accept(0);
     }
-    write_record(words, worker as usize, 30, 0, 0, 0, handle, project, items);
+    write_record(words, worker as usize, TOTAL_START, 0, 0, 0, handle, project, items);
     accept(0)
 }

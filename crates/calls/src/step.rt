@@ -4,7 +4,7 @@ use definitions::{Answer, PhaseRow};
 use lines::endings::refuse;
 use tables::damage::{header_is_damaged, item_is_damaged, steps_or_arguments_are_damaged};
 use tables::fields::{HEADER_WORDS, ITEM, ITEMS_LIMIT, ITEM_WORDS, PHASE, WORKERS, WORKER_WORDS};
-use tables::phases::row_at;
+use tables::phases::{row_at, CLOSING_PHASE, TAKE_SNAPSHOT};
 ghost use mathlib.Core.Path.{_≡_};
 ghost use mathlib.Core.Bool.{false, _&&_};
 ghost use Prim.Native.Nat.{_+_, _*_};
@@ -23,7 +23,7 @@ fn its_item_is_damaged(words: &[u32], items_at: usize, nodes_at: usize, w: usize
     requires { ⌜ Fit «items_at» «nodes_at» w row (now words) ⌝ }
     ensures { λ r. ⌜ r ≡ inside-item row && item-damaged (cells-at «items_at» «nodes_at» (now (words .entry))) (cells-at «items_at» «nodes_at» (now (words .entry)) (item w)) ⌝ }
 {
-    if row.operation == 3 {
+    if row.operation == TAKE_SNAPSHOT {
         return false;
     }
     if row.line == 0 {
@@ -56,7 +56,7 @@ fn step_sound(words: &mut [u32], worker: u32) -> Answer
     }
     let w = worker as usize;
     let phase = words[HEADER_WORDS + WORKER_WORDS * w + PHASE];
-    if 35 < phase {
+    if CLOSING_PHASE < phase {
         return refuse(2);
     }
     if phase == 0 {

@@ -8,6 +8,7 @@ use tables::fields::{
     VALUE, WORKER_WORDS,
 };
 use tables::nodes;
+use tables::phases::{LOST, PUBLISHED};
 ghost use mathlib.Core.Path.{_≡_};
 ghost use Prim.Native.Nat.{ℕ};
 ghost use Rattle.definitions.specs.Cells.{cells-at};
@@ -73,9 +74,9 @@ pub fn line_46(words: &mut [u32], items_at: usize, nodes_at: usize, w: usize) ->
     if words[head_at] == words[at + NODE] {
         words[head_at] = new_node;
         words[at + NODE] = new_node;
-        return go_on(words, w, 13, steps);
+        return go_on(words, w, PUBLISHED, steps);
     }
-    go_on(words, w, 17, steps)
+    go_on(words, w, LOST, steps)
 }
 
 // Line 48: the change is answered 1.

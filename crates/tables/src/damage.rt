@@ -5,7 +5,7 @@ use crate::fields::{
     WORKERS, WORKER_WORDS,
 };
 use crate::nodes;
-use crate::phases::row_at;
+use crate::phases::{row_at, CLOSING_PHASE, READ_SNAPSHOT, TAKE_SNAPSHOT, V_CAS, V_READ};
 use definitions::PhaseRow;
 ghost use mathlib.Core.Path.{_≡_};
 ghost use mathlib.Core.Bool.{_||_};
@@ -100,19 +100,19 @@ fn arguments_are_damaged(words: &[u32], w: usize, row: PhaseRow) -> bool
     ensures { λ r. ⌜ ((a b : ℕ) → r ≡ arguments-damaged row (cells-at a b (now (words .entry))) w) ⌝ }
 {
     let at = HEADER_WORDS + WORKER_WORDS * w;
-    if row.operation == 4 {
+    if row.operation == READ_SNAPSHOT {
         return (words[ITEMS] <= words[at + ITEM]) | (words[COUNTER] <= words[at + HANDLE]);
     }
-    if (row.operation == 1) | (row.operation == 2) {
+    if (row.operation == V_READ) | (row.operation == V_CAS) {
         if words[ITEMS] <= words[at + ITEM] {
             return true;
         }
-        if row.operation == 2 {
+        if row.operation == V_CAS {
             return (words[PROJECTS] <= words[at + OLD]) | (words[PROJECTS] <= words[at + NEW]);
         }
         return false;
     }
-    if row.operation == 3 {
+    if row.operation == TAKE_SNAPSHOT {
         return false;
     }
     total_is_damaged(words, w, row)
@@ -181,7 +181,7 @@ pub fn worker_is_damaged(words: &[u32], w: usize) -> bool
 {
     let at = HEADER_WORDS + WORKER_WORDS * w;
     let phase = words[at + PHASE];
-    if 35 < phase {
+    if CLOSING_PHASE < phase {
         return true;
     }
     if phase == 0 {

@@ -4,6 +4,23 @@ ghost use mathlib.Core.Path.{_≡_};
 ghost use Prim.Native.Nat.{_<_};
 ghost use Rattle.definitions.specs.Phases.{row-of};
 
+// The operations.
+pub const V_READ: u8 = 1;
+pub const V_CAS: u8 = 2;
+pub const TAKE_SNAPSHOT: u8 = 3;
+pub const READ_SNAPSHOT: u8 = 4;
+pub const TOTAL: u8 = 5;
+
+// The phases at which an operation starts, those that line 46 goes to where it succeeds and where it fails, and a total's closing step, the last of all.
+pub const V_READ_START: u32 = 1;
+pub const V_CAS_START: u32 = 6;
+pub const PUBLISHED: u32 = 13;
+pub const LOST: u32 = 17;
+pub const TAKE_SNAPSHOT_START: u32 = 23;
+pub const READ_SNAPSHOT_START: u32 = 25;
+pub const TOTAL_START: u32 = 30;
+pub const CLOSING_PHASE: u32 = 35;
+
 // An entry is 256 * operation + line, and 128 more where the phase may answer: 36 entries of two bytes, small enough to be copied at each look-up.
 const PHASES: [u16; 36] = [
     // idle

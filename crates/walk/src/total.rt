@@ -8,6 +8,7 @@ use tables::fields::{
     SUM_HIGH, SUM_LOW, USED, VALUE, WORKER_WORDS,
 };
 use tables::nodes;
+use tables::phases::{CLOSING_PHASE, TOTAL, TOTAL_START};
 ghost use mathlib.Core.Path.{_≡_};
 ghost use mathlib.Core.Bool.{cond};
 ghost use Prim.Native.Nat.{_+_, _*_, _<_, _≤_};
@@ -23,9 +24,9 @@ fn go_to_place(words: &mut [u32], w: usize, place: u32, noted: u32, steps: u32) 
     ensures { λ r. ⌜ (r ≡ running (steps + 1)) × (now (words .exit) ≡ moved-on (now (words .entry)) w (cond (eqb place noted) 35 30) (steps + 1)) ⌝ }
 {
     if place == noted {
-        return go_on(words, w, 35, steps);
+        return go_on(words, w, CLOSING_PHASE, steps);
     }
-    go_on(words, w, 30, steps)
+    go_on(words, w, TOTAL_START, steps)
 }
 
 // A total's line 32: an item born after the handle is passed over.
@@ -92,7 +93,7 @@ pub fn line_34(words: &mut [u32], items_at: usize, nodes_at: usize, w: usize, op
         return go_to_older(words, items_at, nodes_at, w);
     }
     let value = nodes::word(&words[nodes_at..], n, VALUE);
-    if operation == 5 {
+    if operation == TOTAL {
         return add_item(words, items_at, w, value, steps);
     }
     finish(words, w, value as u64, steps)
