@@ -6,5 +6,6 @@ cd "$(dirname "$0")/.."
 archive=target/staticlib/libcatalogue.a
 sources=(-name '*.rt' -o -name '*.antt' -o -name crates.txt)
 if [ ! -f "$archive" ] || [ -n "$(find crates crates.txt \( "${sources[@]}" \) -newer "$archive" -print -quit)" ]; then
+  echo "the archive is proved and built first: some three minutes from nothing" >&2
   rt staticlib catalogue > /dev/null
 fi
