@@ -1,21 +1,21 @@
 -- What a call comes to depends on the cells that stand alone: two functions that agree on those have the same outcome.
-use Prim.Native.Nat.{ℕ, zero, suc, _+_, _-_, _<_, _≤_}
+use Prim.Native.Nat.{ℕ, _+_, _-_, _<_, _≤_}
 use mathlib.Core.Bool.{Bool, true, false, cond, not, _||_, _&&_}
-use mathlib.Core.List.{List, [], _∷_}
+use mathlib.Core.List.{[], _∷_}
 use mathlib.Core.Path.{_≡_, refl, ap, ap₂, _∙_}
 use native.Mathlib.Omega.{arith}
 use lib.Dec.{eqb, ltb, leb}
-use lib.ListN.{length, getD}
 use borrow.Author.Tests.{leb-false, ltb-false, eqb-false}
 use Rattle.definitions.specs.declared.PhaseRow.{PhaseRow}
 use Rattle.definitions.specs.Cells.{Cell, Cells, _≔_, workers, items-limit, nodes-limit, projects, counter-limit, counter, items, used, given-back, phase, steps, item, old, new, handle, project, noted, node, new-node, seen, sum-low, sum-high, head, birth, size, value, older, stamp}
 use Rattle.definitions.specs.Answers.{Outcome, unless, _⇒_, refused, ends-with}
-use Rattle.definitions.specs.Phases.{row, row-of, table}
+use Rattle.definitions.specs.Phases.{row-of, table}
 use Rattle.definitions.specs.Damage.{bad-item, bad-value, bad-handle, inside-item, keeps-node, keeps-new-node, arguments-damaged, kept-damaged, running-damaged, worker-damaged, item-damaged, node-damaged, older-damaged}
 use Rattle.definitions.specs.Lines.{Line, line, lines, line-of-phase, idle, fetch, help-20, help-21, help-22, fetch-head, line-20, line-21, line-22, line-39, line-43, line-45, line-46, line-48, line-50, line-52, line-5, line-6, line-34, total-32, total-34, closing, no-node, node-to-take, taking, no-words, its-value, taken-node, returned-node, tested-node}
 use Rattle.definitions.specs.Calls.{Call, no-worker, busy, free-worker, sound-item, registering, starting-v-read, starting-v-cas, starting-take-snapshot, starting-read-snapshot, starting-total, stepping}
 use Rattle.cells.specs.Stands.{Stands}
 use Rattle.cells.specs.Made.{comes-to}
+use Rattle.cells.specs.Rows.{Rows, at-phase}
 use Rattle.cells.specs.Spares.{Kept-in, kept-in, Header-in, taken-in, where-asked, first-false, second-false}
 
 -- A refusal in both, or the same after it.
@@ -184,20 +184,7 @@ module _ (p m n : ℕ) (f g : Cells) (H : Header-in p m n f) (A : (c : Cell) →
         link-same : older-damaged g (g (new-node w)) ≡ older-damaged f (f (new-node w))
         link-same = rw (A (new-node w) l, A used (omega arith), A (older (f (new-node w))) (omega (arith, k .new-node-in t, H .used-in)))
 
-    -- the table's rows with their lines, in order
-    abbrev Rows-same : List PhaseRow → List Line → Type 0
-    Rows-same [] ls = Unit {0}
-    Rows-same (r ∷ rs) [] = Unit {0}
-    Rows-same (r ∷ rs) (x ∷ ls) = Line-same w l r x × Rows-same rs ls
-
-    row-same : (rs : List PhaseRow) (ls : List Line) (k : ℕ) → Rows-same rs ls → k < length rs → k < length ls
-        → Line-same w l (getD rs k (row 0 0 false)) (getD ls k idle)
-    row-same [] ls k h a b = absurd (omega arith)
-    row-same (r ∷ rs) [] k h a b = absurd (omega arith)
-    row-same (r ∷ rs) (x ∷ ls) zero h a b = h .0
-    row-same (r ∷ rs) (x ∷ ls) (suc k) h a b = row-same rs ls k (h .1) (omega arith) (omega arith)
-
-    every-row : Rows-same table lines
+    every-row : Rows (Line-same w l) table lines
     unfolding table lines
     every-row =
         (idle-same w l _,
@@ -212,8 +199,7 @@ module _ (p m n : ℕ) (f g : Cells) (H : Header-in p m n f) (A : (c : Cell) →
             (twenty-one-same w l _, (twenty-two-same w l _ refl, (total-34-same w l _ refl refl, (closing-same w l _, tt))))))))))))))))))))))))))))))))))))
 
     line-same : (k : ℕ) → k ≤ 35 → Kept-in (row-of k) f w → Same-line w l (row-of k) (line-of-phase k)
-    unfolding row-of line-of-phase
-    line-same k b h = row-same table lines k every-row (unfold table in omega arith) (unfold lines in omega arith) h
+    line-same = at-phase (Line-same w l) every-row
 
   -- ---- the calls
   no-worker-same : (w : ℕ) → no-worker g w ≡ no-worker f w

@@ -2,6 +2,7 @@ pub mod Stands
 pub mod Update
 pub mod Words
 pub mod Made
+pub mod Rows
 pub mod WellFormed
 pub mod Spares
 pub mod Untouched

@@ -5,22 +5,18 @@ use mathlib.Core.List.{List, [], _∷_, _++_}
 use mathlib.Core.Path.{_≡_, refl, ap, subst}
 use native.Mathlib.Omega.{arith}
 use lib.Dec.{eqb, ltb, leb}
-use lib.ListN.{length, getD}
+use lib.ListN.{getD}
 use borrow.Author.Tests.{leb-false, ltb-false, eqb-false}
 use Rattle.definitions.specs.declared.PhaseRow.{PhaseRow}
 use Rattle.definitions.specs.Cells.{project, handle, noted, Cells, Assignment, _≔_, workers, items-limit, nodes-limit, counter-limit, counter, items, used, given-back, phase, steps, item, old, new, node, new-node, seen, head, birth, size, value, older, stamp, record-of, cleared}
 use Rattle.definitions.specs.Answers.{Outcome, Refusal, unless, _⇒_, goes-on, accepts}
-use Rattle.definitions.specs.Phases.{row, row-of, table, closing-phase, total-start, v-read-start, v-cas-start, take-snapshot-start, read-snapshot-start}
+use Rattle.definitions.specs.Phases.{row-of, table, closing-phase, total-start, v-read-start, v-cas-start, take-snapshot-start, read-snapshot-start}
 use Rattle.definitions.specs.Damage.{kept-tests, sum, inside-item, bad-handle, TBD, any-of, any-from, bad-item, bad-value, keeps-node, keeps-new-node, arguments-damaged, kept-damaged, running-damaged, worker-damaged, item-damaged, node-damaged}
 use Rattle.definitions.specs.Lines.{Line, line, lines, line-of-phase, idle, fetch, help-20, help-21, help-22, fetch-head, line-20, line-21, line-22, line-39, line-43, line-45, line-46, line-48, line-50, line-52, line-5, line-6, line-34, total-32, total-34, closing, no-node, node-to-take, taking, too-new, to-older}
 use Rattle.definitions.specs.Calls.{Call, no-worker, busy, sound-item, registering, starting-v-read, starting-v-cas, starting-take-snapshot, starting-read-snapshot, starting-total, stepping}
 use Rattle.cells.specs.Update.{Proper, record-proper}
 use Rattle.cells.specs.Made.{comes-to}
-
--- To prove P of a choice: P of each side, with what the test says.
-pub by-test {ℓ} : {A : Type ℓ} (P : A → Type 0) (b : Bool) {x y : A} → (b ≡ true → P x) → (b ≡ false → P y) → P (cond b x y)
-by-test P true f g = f refl
-by-test P false f g = g refl
+use Rattle.cells.specs.Rows.{by-test, Rows, at-phase, Passed, refused-or}
 
 -- What a test that failed says of its parts.
 pub first-false : (a b : Bool) → a || b ≡ false → a ≡ false
@@ -208,20 +204,7 @@ module _ (p m n : ℕ) (f : Cells) (H : Header-in p m n f) where
     unfolding Line-fine
     idle-fine r k = tt
 
-    -- the table's rows with their lines, in order
-    abbrev Rows-fine : List PhaseRow → List Line → Type 0
-    Rows-fine [] ls = Unit {0}
-    Rows-fine (r ∷ rs) [] = Unit {0}
-    Rows-fine (r ∷ rs) (x ∷ ls) = Line-fine r x × Rows-fine rs ls
-
-    row-fine : (rs : List PhaseRow) (ls : List Line) (k : ℕ) → Rows-fine rs ls → k < length rs → k < length ls
-        → Line-fine (getD rs k (row 0 0 false)) (getD ls k idle)
-    row-fine [] ls k h a b = absurd (omega arith)
-    row-fine (r ∷ rs) [] k h a b = absurd (omega arith)
-    row-fine (r ∷ rs) (x ∷ ls) zero h a b = h .0
-    row-fine (r ∷ rs) (x ∷ ls) (suc k) h a b = row-fine rs ls k (h .1) (omega arith) (omega arith)
-
-    every-row : Rows-fine table lines
+    every-row : Rows Line-fine table lines
     unfolding table lines
     every-row =
         (idle-fine _,
@@ -235,19 +218,13 @@ module _ (p m n : ℕ) (f : Cells) (H : Header-in p m n f) where
             (twenty-two-fine _ refl, (total-34-fine _ _, (closing-fine _ _, tt))))))))))))))))))))))))))))))))))))
 
     line-fine : (k : ℕ) → k ≤ 35 → Kept-in (row-of k) f w → Fine (line-of-phase k .does f w)
-    unfolding Line-fine row-of line-of-phase
-    line-fine k b h = row-fine table lines k every-row (unfold table in omega arith) (unfold lines in omega arith) h
+    unfolding Line-fine
+    line-fine = at-phase Line-fine every-row
 
   -- ---- the calls
 
-  -- refused, or nothing of a list of refusals applied
-  abbrev Passed : List Refusal → Type 0
-  Passed [] = Unit {0}
-  Passed (r ∷ rs) = (r .when ≡ false) × Passed rs
-
   unless-fine : (rs : List Refusal) (o : Outcome) → (Passed rs → Fine o) → Fine (unless rs o)
-  unless-fine [] o h = h tt
-  unless-fine (r ∷ rs) o h = by-test Fine (r .when) (λ e. tt) (λ e. unless-fine rs o (λ k. h (e, k)))
+  unless-fine = refused-or Fine (λ n. tt)
 
   abbrev free : ℕ → List Refusal
   free w = worker-damaged f w ⇒ 2 ∷ busy f w ⇒ 4 ∷ []

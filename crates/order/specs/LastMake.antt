@@ -1,13 +1,11 @@
 -- The history of a catalogue begins at the last make that was not refused: any calls, on any words, are a run since then, if there was one.
-use mathlib.Core.Path.{_≡_, refl, ap, sym, _∙_, subst}
+use mathlib.Core.Path.{_≡_, refl, ap, _∙_, subst}
 use mathlib.Core.Logic.{_≢_, _⊎_, inl, inr}
-use mathlib.Core.Bool.{Bool, true, false, true≢false}
 use mathlib.Core.List.{List, [], _∷_, _++_}
 use Prim.Native.Nat.{ℕ}
-use lib.Dec.{T, eqb, eqb→eq}
 use Rattle.definitions.specs.Calls.{Call, outcome}
 use Rattle.history.specs.Notes.{words-after, start, Typed, Run-call, Run}
-use Rattle.reached.specs.Run.{no-make-call}
+use Rattle.reached.specs.Reached.{run-or-made}
 
 -- the arguments of every call are numbers of their types
 abbrev pub AllTyped : List Call → Type 0
@@ -36,23 +34,9 @@ pub record Since (ws : List ℕ) (cs : List Call) : Type 0 where
 -- an accepted make, or a call of a run
 accepted-or-not : (ws : List ℕ) (x : Call) → Typed x →
     ((p : ℕ) × (m : ℕ) × (n : ℕ) × (q : ℕ) × (c : ℕ) × (x ≡ Call.make p m n q c) × (outcome ws (Call.make p m n q c) .answer .code ≡ 2)) ⊎ Run-call ws x
-accepted-or-not ws (Call.make p m n q c) t = at (eqb (outcome ws (Call.make p m n q c) .answer .code) 2) refl
-  where
-    at : (b : Bool) → eqb (outcome ws (Call.make p m n q c) .answer .code) 2 ≡ b →
-      ((p' : ℕ) × (m' : ℕ) × (n' : ℕ) × (q' : ℕ) × (c' : ℕ) × (Call.make p m n q c ≡ Call.make p' m' n' q' c')
-          × (outcome ws (Call.make p' m' n' q' c') .answer .code ≡ 2)) ⊎ Run-call ws (Call.make p m n q c)
-    at true e = inl (p, m, n, q, c, refl, eqb→eq _ 2 (subst T (sym e) tt))
-    at false e = inr (record { typed = tt; no-make = λ p' m' n' q' c' d f. true≢false (sym (is-two f) ∙ e) })
-      where
-        is-two : outcome ws (Call.make p m n q c) .answer .code ≡ 2 → eqb (outcome ws (Call.make p m n q c) .answer .code) 2 ≡ true
-        is-two f = ap (λ (k : ℕ). eqb k 2) f
-accepted-or-not ws (Call.register v s) t = inr (no-make-call ws (Call.register v s) t refl)
-accepted-or-not ws (Call.v-read w i) t = inr (no-make-call ws (Call.v-read w i) tt refl)
-accepted-or-not ws (Call.v-cas w i old new) t = inr (no-make-call ws (Call.v-cas w i old new) tt refl)
-accepted-or-not ws (Call.take-snapshot w) t = inr (no-make-call ws (Call.take-snapshot w) tt refl)
-accepted-or-not ws (Call.read-snapshot w i h) t = inr (no-make-call ws (Call.read-snapshot w i h) tt refl)
-accepted-or-not ws (Call.total w q h) t = inr (no-make-call ws (Call.total w q h) tt refl)
-accepted-or-not ws (Call.step w) t = inr (no-make-call ws (Call.step w) tt refl)
+accepted-or-not ws x t =
+    run-or-made ws x (λ (x : Call). ((p : ℕ) × (m : ℕ) × (n : ℕ) × (q : ℕ) × (c : ℕ) × (x ≡ Call.make p m n q c)
+        × (outcome ws (Call.make p m n q c) .answer .code ≡ 2)) ⊎ Run-call ws x) t (λ p m n q c e. inl (p, m, n, q, c, refl, e)) inr
 
 one-more : (ws : List ℕ) (x : Call) (cs : List Call) → Since ws cs → Run-call (words-after ws cs) x → Since ws (x ∷ cs)
 unfolding words-after

@@ -22,7 +22,8 @@ use Rattle.cells.specs.Stands.{Stands, place-below}
 use Rattle.cells.specs.Update.{after}
 use Rattle.cells.specs.Words.{Sized, Left, leaves, shows-own}
 use Rattle.cells.specs.Made.{comes-to, is-make, on-words, made, made-sized, made-fresh, make-accepts, make-refuses}
-use Rattle.cells.specs.Spares.{by-test, Header-in, call-fine}
+use Rattle.cells.specs.Rows.{by-test}
+use Rattle.cells.specs.Spares.{Header-in, call-fine}
 use Rattle.cells.specs.Untouched.{header-in}
 use Rattle.history.specs.Notes.{words-after}
 use Rattle.reached.specs.Run.{Run, Run-call, start}

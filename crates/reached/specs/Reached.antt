@@ -41,7 +41,7 @@ one-call : (ws : List ℕ) (h : Imaged ws) (x : Call) → Run-call ws x → Call
 one-call ws h x k = every-call ws (after-calls (h .limits) (h .calls)) (h .image) (few-imaged ws h) x k
 
 -- A call of a run, or an accepted make.
-run-or-made : (ws : List ℕ) (x : Call) (P : Call → Type 0) → Typed x
+pub run-or-made : (ws : List ℕ) (x : Call) (P : Call → Type 0) → Typed x
     → ((p m n q c : ℕ) → outcome ws (Call.make p m n q c) .answer .code ≡ 2 → P (Call.make p m n q c))
     → (Run-call ws x → P x) → P x
 run-or-made ws (Call.make p m n q c) P t f g = at (eqb (outcome ws (Call.make p m n q c) .answer .code) 2) refl

@@ -8,19 +8,19 @@ use mathlib.Core.Path.{_≡_, refl, ap, ap₂, sym, subst}
 use native.Mathlib.Omega.{arith}
 use native.Mathlib.Nat.{le-refl}
 use lib.Dec.{eqb, ltb, leb}
-use lib.ListN.{length, getD}
 use borrow.Author.Tests.{ltb-true, ltb-false, eqb-true, eqb-false, lt-ltb, eq-eqb, ne-eqb}
 use Rattle.definitions.specs.declared.PhaseRow.{PhaseRow}
 use Rattle.definitions.specs.Cells.{Cell, cell, Cells, Assignment, _≔_, items-limit, counter-limit, counter, items, used, given-back, phase, steps, item, old, new, handle, noted, node, new-node, seen, sum-low, sum-high, head, birth, size, value, older, stamp, record-of, cleared}
 use Rattle.definitions.specs.Answers.{Outcome, Refusal, unless, _⇒_, goes-on, accepts}
-use Rattle.definitions.specs.Phases.{row, row-of, table, v-read-start, v-cas-start, published, lost, take-snapshot-start, read-snapshot-start, total-start, closing-phase}
+use Rattle.definitions.specs.Phases.{row-of, table, v-read-start, v-cas-start, published, lost, take-snapshot-start, read-snapshot-start, total-start, closing-phase}
 use Rattle.definitions.specs.Damage.{TBD, inside-item, bad-value, bad-handle, keeps-node, keeps-new-node, running-damaged, worker-damaged, item-damaged, node-damaged}
-use Rattle.definitions.specs.Lines.{Line, lines, line-of-phase, idle, fetch-head, line-20, line-21, line-22, line-39, line-43, line-45, line-46, line-48, line-50, line-52, line-5, line-6, line-34, total-32, total-34, closing, no-node, node-to-take, too-new, to-older, added}
+use Rattle.definitions.specs.Lines.{lines, line-of-phase, fetch-head, line-20, line-21, line-22, line-39, line-43, line-45, line-46, line-48, line-50, line-52, line-5, line-6, line-34, total-32, total-34, closing, no-node, node-to-take, too-new, to-older, added}
 use Rattle.definitions.specs.Calls.{Call, busy, no-worker, free-worker, sound-item, registering, registered, starting-v-read, starting-v-cas, starting-take-snapshot, starting-read-snapshot, starting-total, stepping}
 use Rattle.cells.specs.Stands.{Stands}
 use Rattle.cells.specs.Update.{put, after, same-cell}
 use Rattle.cells.specs.Made.{comes-to}
-use Rattle.cells.specs.Spares.{by-test, first-false, second-false, where-asked, Kept-in, kept-in}
+use Rattle.cells.specs.Rows.{by-test, Rows, at-phase, Passed, refused-or}
+use Rattle.cells.specs.Spares.{first-false, second-false, where-asked, Kept-in, kept-in}
 
 -- In use are the header's first nine words, the first thirteen of a worker that runs, three of each of u items, and the three of each of t nodes.
 abbrev pub in-use : (ℕ → Bool) → (u t : ℕ) → Cell → Bool
@@ -339,20 +339,7 @@ module _ (f : Cells) (first-in : f given-back ≤ f used) where
         (λ a. goes f w _ (item w ≔ (f (item w) + 1) ∷ sum-low w ≔ (added f w % 4294967296) ∷ sum-high w ≔ (added f w / 4294967296) ∷ [])
             (plain f w _ refl refl (λ v. refl) (inl (self w), (inl (self w), (inl (self w), tt)))) next-phase)
 
-    -- the table's rows with their lines, in order
-    abbrev Rows-fine : List PhaseRow → List Line → Type 0
-    Rows-fine [] ls = Unit {0}
-    Rows-fine (r ∷ rs) [] = Unit {0}
-    Rows-fine (r ∷ rs) (x ∷ ls) = Line-fine r (x .does) × Rows-fine rs ls
-
-    row-fine : (rs : List PhaseRow) (ls : List Line) (k : ℕ) → Rows-fine rs ls → k < length rs → k < length ls
-        → Line-fine (getD rs k (row 0 0 false)) (getD ls k idle .does)
-    row-fine [] ls k h a b = absurd (omega arith)
-    row-fine (r ∷ rs) [] k h a b = absurd (omega arith)
-    row-fine (r ∷ rs) (x ∷ ls) zero h a b = h .0
-    row-fine (r ∷ rs) (x ∷ ls) (suc k) h a b = row-fine rs ls k (h .1) (omega arith) (omega arith)
-
-    every-row : Rows-fine table lines
+    every-row : Rows (λ r x. Line-fine r (x .does)) table lines
     unfolding table lines line-39 line-48 line-52 closing
     every-row =
         ((λ k h. nothing-changes f),
@@ -366,19 +353,12 @@ module _ (f : Cells) (first-in : f given-back ≤ f used) where
             (twenty-two-fine _ refl, (total-34-fine _, ((λ k h. answered), tt))))))))))))))))))))))))))))))))))))
 
     line-fine : (k : ℕ) → k ≤ 35 → Kept-in (row-of k) f w → f (phase w) ≢ 0 → Fine (line-of-phase k .does f w)
-    unfolding row-of line-of-phase
-    line-fine k b h z = row-fine table lines k every-row (unfold table in omega arith) (unfold lines in omega arith) h z
+    line-fine = at-phase (λ r x. Line-fine r (x .does)) every-row
 
   -- ---- the calls
 
-  -- refused, or nothing of a list of refusals applied
-  abbrev Passed : List Refusal → Type 0
-  Passed [] = Unit {0}
-  Passed (r ∷ rs) = (r .when ≡ false) × Passed rs
-
   unless-fine : (rs : List Refusal) (o : Outcome) → (Passed rs → Fine o) → Fine (unless rs o)
-  unless-fine [] o h = h tt
-  unless-fine (r ∷ rs) o h = by-test Fine (r .when) (λ e. nothing-changes f) (λ e. unless-fine rs o (λ k. h (e, k)))
+  unless-fine = refused-or Fine (λ n. nothing-changes f)
 
   abbrev known : ℕ → Bool
   known w = not (eqb (f (phase w)) 0) && running-damaged (row-of (f (phase w))) f w
