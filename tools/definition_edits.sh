@@ -1,38 +1,25 @@
 #!/usr/bin/env bash
-# usage: bash tools/definition_edits.sh [NAME..]: puts each edit of tools/definition_edits into a copy of crate definitions, alone, and has the crates checked that
-# prove theorems of the definitions: the fifteen runs (runs), and demands 2 and 3 (cells, history, reached, order). Every edit must be refused. rt's own must-fail
-# edits cannot show this, since they check the edited crate alone. Takes some three minutes.
+# usage: bash tools/definition_edits.sh [NAME..]: puts each edit of tools/definition_edits into a copy of the crates, alone, and has the crate checked that its line
+# 'by:' names: reached, which ties every call of the words to the machine that demands 2 and 3 are proved of, or runs, the fifteen runs. All below it must still
+# be proved, and it must be refused. rt's own must-fail edits cannot show this, since they check the edited crate alone. Two edits are tried at a time.
 set -eu
 cd "$(dirname "$0")/.."
-there=$(mktemp -d)
-trap 'rm -rf "$there"' EXIT
+
+try_edit() {
+  edit=tools/definition_edits/$1.edit there=$(mktemp -d) below="definitions cells history"
+  trap 'rm -rf "$there"' EXIT
+  by=$(sed -n 's/^by: //p' "$edit")
+  mkdir "$there/crates"
+  for crate in $below "$by"; do cp -R "crates/$crate" "$there/crates/"; rm -rf "$there/crates/$crate/must-fail"; done
+  grep -E "^(${below// /|}|$by):" crates.txt > "$there/crates.txt"
+  python3 tools/put_edit.py "$there/crates" "$edit"
+  cd "$there"
+  if rt check "$by" > log 2>&1; then echo "NOT REFUSED: $1"; return 1; fi
+  if ! grep -q "^rt: FAILED: $by\$" log; then echo "REFUSED BELOW $by: $1: $(grep -m 1 'error' log)"; return 1; fi
+  echo "refused: $1: $(sed -n 's/.*crates\/\([^ ]*: error: .\{100\}\).*/\1/p' log | head -n 1)"
+}
+
+if [ "${1:-}" = --one ]; then RT_JOBS=1 try_edit "$2"; exit; fi
 [ "$#" -gt 0 ] || set -- $(basename -s .edit tools/definition_edits/*.edit)
-refused=0 survived=0
-for name in "$@"; do
-  rm -rf "$there/crates"
-  mkdir -p "$there/crates"
-  for crate in definitions runs cells history reached order; do cp -R "crates/$crate" "$there/crates/"; rm -rf "$there/crates/$crate/must-fail"; done
-  grep -E '^(definitions|runs|cells|history|reached|order):' crates.txt > "$there/crates.txt"
-  python3 - "$there/crates/definitions" "tools/definition_edits/$name.edit" <<'PYTHON'
-import sys
-crate, edit = sys.argv[1:]
-for line in open(edit, encoding="utf8").read().split("\n"):
-    kind, _, text = line.partition(": ")
-    if kind == "file": path = crate + "/" + text
-    if kind == "old": old = text
-    if kind == "new":
-        source = open(path, encoding="utf8").read()
-        if source.count(old) != 1: sys.exit(edit + ": not exactly once: " + old)
-        open(path, "w", encoding="utf8").write(source.replace(old, text))
-PYTHON
-  if (cd "$there" && rt check > log 2>&1); then
-    survived=$((survived + 1)); echo "NOT REFUSED: $name"
-  elif ! grep -q '^rt: definitions proved' "$there/log"; then
-    survived=$((survived + 1)); echo "NO DEFINITION ANY MORE: $name"; grep -m 1 error "$there/log" || true
-  else
-    refused=$((refused + 1))
-    echo "refused: $name, by $(grep -o '^rt: [a-z]* NOT PROVED' "$there/log" | cut -d' ' -f2 | tr '\n' ' ')first at $(grep -m 1 -o 'crates/[^ ]*: error: `[^`]*`' "$there/log")"
-  fi
-done
-echo "$refused refused, $survived not"
-[ "$survived" -eq 0 ]
+printf '%s\n' "$@" | xargs -P 2 -n 1 bash tools/definition_edits.sh --one
+echo "all $# edits of the definitions are refused"

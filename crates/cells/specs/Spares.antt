@@ -12,7 +12,7 @@ use Rattle.definitions.specs.Cells.{project, handle, noted, Cells, Assignment, 
 use Rattle.definitions.specs.Answers.{Outcome, Refusal, unless, _⇒_, goes-on, accepts}
 use Rattle.definitions.specs.Phases.{row-of, table, closing-phase, total-start, v-read-start, v-cas-start, take-snapshot-start, read-snapshot-start}
 use Rattle.definitions.specs.Damage.{kept-tests, sum, inside-item, bad-handle, TBD, any-of, any-from, bad-item, bad-value, keeps-node, keeps-new-node, arguments-damaged, kept-damaged, running-damaged, worker-damaged, item-damaged, node-damaged}
-use Rattle.definitions.specs.Lines.{Line, line, lines, line-of-phase, idle, fetch, help-20, help-21, help-22, fetch-head, line-20, line-21, line-22, line-39, line-43, line-45, line-46, line-48, line-50, line-52, line-5, line-6, line-34, total-32, total-34, closing, no-node, node-to-take, taking, too-new, to-older}
+use Rattle.definitions.specs.Lines.{Line, line, lines, line-of-phase, idle, fetch, help-20, help-21, help-22, fetch-head, line-20, line-21, line-22, line-39, line-43, line-45, line-46, line-48, line-50, line-52, line-5, line-6, line-34, total-32, total-34, closing, no-node, node-to-take, taking, succeeds-22, succeeds-46, counter-full, succeeds-6, too-new, to-older}
 use Rattle.definitions.specs.Calls.{Call, no-worker, busy, sound-item, registering, starting-v-read, starting-v-cas, starting-take-snapshot, starting-read-snapshot, starting-total, stepping}
 use Rattle.cells.specs.Update.{Proper, record-proper}
 use Rattle.cells.specs.Made.{comes-to}
@@ -109,6 +109,10 @@ module _ (p m n : ℕ) (f : Cells) (H : Header-in p m n f) where
   after-taking xs h = by-test (λ (ys : List Assignment). Proper p m n (ys ++ xs)) (eqb (f given-back) 0) (λ e. (omega arith, omega arith, h))
       (λ e. (omega arith, omega arith, h))
 
+  both : (xs ys : List Assignment) → Proper p m n xs → Proper p m n ys → Proper p m n (xs ++ ys)
+  both [] ys a b = b
+  both (x ∷ xs) ys (s, k, a) b = (s, k, both xs ys a b)
+
   module _ (w : ℕ) (l : w < p) where
     -- a worker's own cells
     two : Proper p m n (phase w ≔ 0 ∷ steps w ≔ 0 ∷ [])
@@ -131,7 +135,7 @@ module _ (p m n : ℕ) (f : Cells) (H : Header-in p m n f) where
 
     twenty-two-fine : (r : PhaseRow) → keeps-node r ≡ true → Line-fine r help-22
     unfolding Line-fine line-22
-    twenty-two-fine r e k = by-test Fine (eqb (f (stamp (f (node w)))) TBD) (λ d. (omega (arith, k .node-in e, H .used-in), omega arith, two)) (λ d. two)
+    twenty-two-fine r e k = by-test Fine (succeeds-22 f w) (λ d. (omega (arith, k .node-in e, H .used-in), omega arith, two)) (λ d. two)
 
     -- a line that answers clears the record
     answers-fine : Proper p m n (cleared w)
@@ -153,15 +157,13 @@ module _ (p m n : ℕ) (f : Cells) (H : Header-in p m n f) where
     unfolding Line-fine line-45
     line-45-fine r d k = by-test Fine (no-node f) (λ a. answers-fine)
         (λ a. let y : node-to-take f < n = taken-in a in
-          by-test (λ (ts : List Assignment). Fine (goes-on f w (f (phase w) + 1)
-              (ts ++ (value (node-to-take f) ≔ f (new w) ∷ older (node-to-take f) ≔ (f (node w) + 1) ∷ stamp (node-to-take f) ≔ TBD
-                  ∷ new-node w ≔ node-to-take f ∷ []))))
-            (eqb (f given-back) 0) (λ b. (omega arith, omega arith, (y, omega arith, (y, omega arith, (y, omega arith, (l, omega arith, two))))))
-            (λ b. (omega arith, omega arith, (y, omega arith, (y, omega arith, (y, omega arith, (l, omega arith, two)))))))
+          let four : Proper p m n (value (node-to-take f) ≔ 0 ∷ older (node-to-take f) ≔ 0 ∷ stamp (node-to-take f) ≔ 0 ∷ new-node w ≔ 0 ∷ []) =
+              (y, omega arith, (y, omega arith, (y, omega arith, (l, omega arith, tt)))) in
+          both (taking f ++ _) _ (after-taking _ four) two)
 
     line-46-fine : (r : PhaseRow) (d : Cells → ℕ → Bool) → inside-item r ≡ true → Line-fine r (line d line-46)
     unfolding Line-fine line-46
-    line-46-fine r d e k = by-test Fine (eqb (f (head (f (item w)))) (f (node w)))
+    line-46-fine r d e k = by-test Fine (succeeds-46 f w)
         (λ a. (omega (arith, k .item-in e, H .items-in), omega arith, (l, omega arith, two))) (λ a. two)
 
     line-48-fine : (r : PhaseRow) (d : Cells → ℕ → Bool) → Line-fine r (line d line-48)
@@ -178,11 +180,11 @@ module _ (p m n : ℕ) (f : Cells) (H : Header-in p m n f) where
 
     line-5-fine : (r : PhaseRow) (d : Cells → ℕ → Bool) → Line-fine r (line d line-5)
     unfolding Line-fine line-5
-    line-5-fine r d k = by-test Fine (leb (f counter-limit) (f counter)) (λ a. answers-fine) (λ a. (l, omega arith, two))
+    line-5-fine r d k = by-test Fine (counter-full f) (λ a. answers-fine) (λ a. (l, omega arith, two))
 
     line-6-fine : (r : PhaseRow) (d : Cells → ℕ → Bool) → Line-fine r (line d line-6)
     unfolding Line-fine line-6
-    line-6-fine r d k = by-test Fine (eqb (f counter) (f (seen w))) (λ a. (omega arith, omega arith, answers-fine)) (λ a. answers-fine)
+    line-6-fine r d k = by-test Fine (succeeds-6 f w) (λ a. (omega arith, omega arith, answers-fine)) (λ a. answers-fine)
 
     line-34-fine : (r : PhaseRow) (d : Cells → ℕ → Bool) → Line-fine r (line d line-34)
     unfolding Line-fine line-34

@@ -22,9 +22,11 @@ unfoldable pub line-21 : Cells → ℕ → Outcome
 line-21 m w = goes-on m w (m (phase w) + 1) (seen w ≔ m counter ∷ [])
 
 -- line 22: CAS(&n->ts, TBD, curTS)
+abbrev pub succeeds-22 : Cells → ℕ → Bool
+succeeds-22 m w = eqb (m (stamp (m (node w)))) TBD
 unfoldable pub line-22 : Cells → ℕ → Outcome
 line-22 m w =
-    cond (eqb (m (stamp (m (node w)))) TBD)
+    cond (succeeds-22 m w)
     (goes-on m w (m (phase w) + 1) (stamp (m (node w)) ≔ m (seen w) ∷ []))
     (goes-on m w (m (phase w) + 1) [])
 
@@ -56,9 +58,11 @@ line-45 m w =
     ++ (value (node-to-take m) ≔ m (new w) ∷ older (node-to-take m) ≔ (m (node w) + 1) ∷ stamp (node-to-take m) ≔ TBD ∷ new-node w ≔ node-to-take m ∷ [])))
 
 -- line 46: CAS(&VHead, head, newN); where it succeeds, the new node is the one to help
+abbrev pub succeeds-46 : Cells → ℕ → Bool
+succeeds-46 m w = eqb (m (head (m (item w)))) (m (node w))
 unfoldable pub line-46 : Cells → ℕ → Outcome
 line-46 m w =
-    cond (eqb (m (head (m (item w)))) (m (node w)))
+    cond (succeeds-46 m w)
     (goes-on m w published (head (m (item w)) ≔ m (new-node w) ∷ node w ≔ m (new-node w) ∷ []))
     (goes-on m w lost [])
 
@@ -74,13 +78,17 @@ line-50 m w =
     goes-on m w (m (phase w) + 1) (older (m (new-node w)) ≔ m given-back ∷ given-back ≔ (m (new-node w) + 1) ∷ [])
 
 -- line 5: ts = timestamp
+abbrev pub counter-full : Cells → Bool
+counter-full m = leb (m counter-limit) (m counter)
 unfoldable pub line-5 : Cells → ℕ → Outcome
-line-5 m w = cond (leb (m counter-limit) (m counter)) (ends-with m w 12) (goes-on m w (m (phase w) + 1) (seen w ≔ m counter ∷ []))
+line-5 m w = cond (counter-full m) (ends-with m w 12) (goes-on m w (m (phase w) + 1) (seen w ≔ m counter ∷ []))
 
 -- line 6: CAS(&timestamp, ts, ts + 1); return ts
+abbrev pub succeeds-6 : Cells → ℕ → Bool
+succeeds-6 m w = eqb (m counter) (m (seen w))
 unfoldable pub line-6 : Cells → ℕ → Outcome
 line-6 m w =
-    cond (eqb (m counter) (m (seen w)))
+    cond (succeeds-6 m w)
     (answers m w (m (seen w)) (counter ≔ (m (seen w) + 1) ∷ []))
     (answers m w (m (seen w)) [])
 

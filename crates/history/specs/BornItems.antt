@@ -12,7 +12,7 @@ use Rattle.history.specs.Effects.{effects}
 use Rattle.history.specs.Machine.{Catalogue}
 use Rattle.history.specs.Facts.{Sees}
 use Rattle.history.specs.Places.{Invariant}
-use Rattle.history.specs.OrderList.{effects-rise}
+use Rattle.history.specs.OrderList.{born-seen}
 use Rattle.history.specs.NodeCount.{sum-to}
 use Rattle.history.specs.EffectsRight.{born-by}
 use Rattle.history.specs.EffectsRun.{Effected}
@@ -67,12 +67,10 @@ module _ (s : Catalogue) (invariant : Invariant s) (run : List Note) (E : Effect
 
   -- an item with a version in effect at τ was born by then
   pub born-then : (i τ j : ℕ) → Sees (s .memory .item i) τ j → i < object-at τ (effects run) .items
-  born-then i τ j x = at (split i (object-at τ (effects run) .items)) (split i (s .memory .items)) (same? 0 j)
+  born-then i τ j x = at (split i (object-at τ (effects run) .items)) (split i (s .memory .items))
     where
-      at : Split i (object-at τ (effects run) .items) → Split i (s .memory .items) → Same 0 j → i < object-at τ (effects run) .items
-      at (Split.less p) q z = p
-      at (Split.more p) (Split.more q) z =
+      at : Split i (object-at τ (effects run) .items) → Split i (s .memory .items) → i < object-at τ (effects run) .items
+      at (Split.less p) q = p
+      at (Split.more p) (Split.more q) =
           absurd (omega (arith, x .have, invariant .kept .memory .unregistered i q, invariant .kept .memory .item i .valid-published))
-      at (Split.more p) (Split.less q) (eq z) = absurd (omega (arith, known-items τ .2 i p q, x .begun, ap (s .memory .item i .effect-at) z))
-      at (Split.more p) (Split.less q) (ne z) =
-          absurd (omega (arith, known-items τ .2 i p q, x .begun, effects-rise s invariant i 0 j (omega arith) (x .have)))
+      at (Split.more p) (Split.less q) = absurd (omega (arith, known-items τ .2 i p q, born-seen s invariant i τ j x))

@@ -163,7 +163,7 @@ module _ {t : ℕ} {m : Memory} (known : MemoryFacts t m) where
       MemoryFacts (suc t) (with-item m i it)
   with-inv i it L some invariant =
       record {
-        left-past = λ h p. omega (arith, known .left-past h p);
+        left-past = λ h p. omega (arith, known .left-past h p); left-rises = known .left-rises;
         item = λ n. put-all (λ (n : ℕ) (x : Item). ItemFacts (suc t) (m .camera) x) (m .item) i it n (λ e. invariant)
             (λ e. item-stays camera-stays (known .item n));
         births = λ a b p q. put-all (λ (a : ℕ) (x : Item). a < b → x .author 0 < put (m .item) i it b .author 0) (m .item) i it a
@@ -203,16 +203,20 @@ module _ {t : ℕ} {m : Memory} (known : MemoryFacts t m) where
 
   pub effect-keeps : (o : ℕ) (op : Operation) (l : Bool) (e : Effect) → Allowed t o op l m e → MemoryFacts (suc t) (memory-after t o e m)
   unfolding memory-after
-  effect-keeps o op l nothing x = record { left-past = λ h p. omega (arith, known .left-past h p); item = λ i. item-stays camera-stays (known .item i);
+  effect-keeps o op l nothing x = record { left-past = λ h p. omega (arith, known .left-past h p); left-rises = known .left-rises; item = λ i. item-stays camera-stays (known .item i);
       births = known .births; registered = known .registered; unregistered = known .unregistered }
-  effect-keeps o op l (takes-node i0 b0 j0 y0) x = record { left-past = λ h p. omega (arith, known .left-past h p);
+  effect-keeps o op l (takes-node i0 b0 j0 y0) x = record { left-past = λ h p. omega (arith, known .left-past h p); left-rises = known .left-rises;
       item = λ i. item-stays camera-stays (known .item i); births = known .births; registered = known .registered; unregistered = known .unregistered }
-  effect-keeps o op l (gives-back y) x = record { left-past = λ h p. omega (arith, known .left-past h p);
+  effect-keeps o op l (gives-back y) x = record { left-past = λ h p. omega (arith, known .left-past h p); left-rises = known .left-rises;
       item = λ i. item-stays camera-stays (known .item i); births = known .births; registered = known .registered; unregistered = known .unregistered }
   effect-keeps o op l counts x =
       record {
         left-past = λ h p. put-all (λ (n x : ℕ). x < suc t) (m .camera .left-at) (m .camera .counter) t h (λ e. omega arith)
             (λ e. omega (arith, known .left-past h (omega arith)));
+        left-rises = λ g h p q. put-all (λ (g x : ℕ). g < h → x < put (m .camera .left-at) (m .camera .counter) t h) (m .camera .left-at) (m .camera .counter) t g
+            (λ e p. absurd (omega arith))
+            (λ e p. put-all (λ (h x : ℕ). g < h → h < suc (m .camera .counter) → m .camera .left-at g < x) (m .camera .left-at) (m .camera .counter) t h
+              (λ f p q. known .left-past g (omega arith)) (λ f p q. known .left-rises g h p (omega arith)) p q) p;
         item = λ i. item-stays (counted-later o) (known .item i); births = known .births; registered = known .registered;
             unregistered = known .unregistered }
   effect-keeps o op l (publishes i v y) x =

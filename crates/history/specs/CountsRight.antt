@@ -9,7 +9,8 @@ use Rattle.definitions.specs.Calls.{Call}
 use Rattle.history.specs.Definition1.{Operation}
 use Rattle.history.specs.Notes.{ledger}
 use Rattle.history.specs.Notes as Notes
-use Rattle.history.specs.Statements.{fate-of, Finished, WholeLines, RefusedLines, most-steps}
+use Rattle.history.specs.Notes.{WholeLines, RefusedLines, most-steps}
+use Rattle.history.specs.Statements.{fate-of, Finished}
 use Rattle.history.specs.Machine.{Memory, Limits, Then, then-39, then-43, then-48, then-52, then-34, then-total-34, Phase, line-37, line-39,
     line-41, line-43, line-45, line-46, line-48, line-50, line-51, line-52, line-5, line-6, line-32, line-34, total-32, total-34, closing, line-20,
     line-21, line-22, Worker, busy, after-calls}
@@ -85,18 +86,19 @@ phase-most t o l m (line-22 c j n r) x b = then-most t o (x .earlier) m c j (len
 -- every operation of every run of the machine ends when it is stepped
 pub progress : (limits : Limits) → limits .items ≤ 256 → limits .nodes ≤ 4096 → (cs : List Call) (o : ℕ) →
     fate-of (machine-notes limits cs) o .ending ≡ Notes.goes-on →
-  length (fate-of (machine-notes limits cs) o .lines) < most-steps (fate-of (machine-notes limits cs) o .operation)
+  (ledger (machine-notes limits cs) .current (fate-of (machine-notes limits cs) o .worker) ≡ o)
+    × (length (fate-of (machine-notes limits cs) o .lines) < most-steps (fate-of (machine-notes limits cs) o .operation))
 progress limits a b cs o e = at (agrees limits cs .running o e)
   where
     w : ℕ
     w = fate-of (machine-notes limits cs) o .worker
-    at : Runs (after-calls limits cs) o (fate-of (machine-notes limits cs) o) →
-        length (fate-of (machine-notes limits cs) o .lines) < most-steps (fate-of (machine-notes limits cs) o .operation)
+    at : Runs (after-calls limits cs) o (fate-of (machine-notes limits cs) o) → (ledger (machine-notes limits cs) .current w ≡ o)
+        × (length (fate-of (machine-notes limits cs) o .lines) < most-steps (fate-of (machine-notes limits cs) o .operation))
     at (l, ph, is) =
-        subst (λ (op : Operation). length (fate-of (machine-notes limits cs) o .lines) < most-steps op)
+        (its .0, subst (λ (op : Operation). length (fate-of (machine-notes limits cs) o .lines) < most-steps op)
             (sym (agrees limits cs .fate o .operation ∙ K .operation))
           (subst (λ (l : List ℕ). length l < most-steps (phase-operation ph)) (sym (its .1))
-            (phase-most (after-calls limits cs .now) o l (after-calls limits cs .memory) ph (K .facts) (steps-bound limits a b cs w o l ph is)))
+            (phase-most (after-calls limits cs .now) o l (after-calls limits cs .memory) ph (K .facts) (steps-bound limits a b cs w o l ph is))))
       where
         K : InOperation (after-calls limits cs .now) (after-calls limits cs .memory) (after-calls limits cs .fate o) (after-calls limits cs .place o)
             w o l ph

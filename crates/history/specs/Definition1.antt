@@ -4,7 +4,7 @@ use mathlib.Core.Path.{_≡_}
 use mathlib.Core.Logic.{_⊎_}
 use mathlib.Core.Bool.{cond}
 use mathlib.Core.List.{List, [], _∷_}
-use Prim.Native.Nat.{ℕ, zero, suc, _+_}
+use Prim.Native.Nat.{ℕ, zero, suc, _+_, _<_}
 use lib.Dec.{eqb}
 
 -- An operation with its arguments. A register has the number of its item, the value and the size.
@@ -73,15 +73,19 @@ Answered op x past l = Follows (record { operation = op; answer = x }) past l
 abbrev pub AtSnapshots : ℕ → List Act → (Object → Type 0) → Type 0
 AtSnapshots h past P = ((p : List Act) × Answered take-snapshot h p past) × ((p : List Act) → Answered take-snapshot h p past → P (object p))
 
+-- item i is registered, and its value is x
+abbrev pub Holds : (i x : ℕ) → Object → Type 0
+Holds i x y = (i < y .items) × (x ≡ y .value i)
+
 -- The answer x is right after past. A takeSnapshot may answer h if all reads and totals at h so far agree with the object now.
 abbrev pub Right : Operation → ℕ → List Act → Type 0
 Right (register i v s) x past = (x ≡ i) × (object past .items ≡ i)
-Right (v-read i) x past = x ≡ object past .value i
-Right (v-cas i old new) x past = x ≡ cond (eqb (object past .value i) old) 1 0
+Right (v-read i) x past = Holds i x (object past)
+Right (v-cas i old new) x past = (i < object past .items) × (x ≡ cond (eqb (object past .value i) old) 1 0)
 Right take-snapshot h past =
-    ((i x : ℕ) (p : List Act) → Answered (read-snapshot i h) x p past → x ≡ object past .value i)
+    ((i x : ℕ) (p : List Act) → Answered (read-snapshot i h) x p past → Holds i x (object past))
       × ((q x : ℕ) (p : List Act) → Answered (total q h) x p past → x ≡ total-of q (object past))
-Right (read-snapshot i h) x past = AtSnapshots h past (λ then. x ≡ then .value i)
+Right (read-snapshot i h) x past = AtSnapshots h past (Holds i x)
 Right (total q h) x past = AtSnapshots h past (λ then. x ≡ total-of q then)
 
 -- every answer is right after what came before it

@@ -20,7 +20,7 @@ use Rattle.history.specs.TraceRun.{traced}
 use Rattle.history.specs.Moments.{BornBy, Moments, moments}
 use Rattle.history.specs.Instants.{stamped-first, change-stamped}
 use Rattle.history.specs.Immediately.{noted-one, same-event, other-line, not-registered, same-change}
-use Rattle.history.specs.EffectsRight.{effect-tag, effect-item, version-effect, snapshot-effect, IsEffect, of-version, of-counter}
+use Rattle.history.specs.EffectsRight.{version-effect, snapshot-effect, IsEffect, of-version, of-counter, left-then}
 use Rattle.history.specs.EffectLaws.{birth-among, snapshot-among}
 use Rattle.history.specs.EffectsRun.{Effected, effected}
 
@@ -169,12 +169,14 @@ module _ (s : Catalogue) (invariant : Invariant s) (run : List Note) (trace : Tr
 
   -- the counter leaves each handle once
   left-once : (h t t' : ℕ) → IsEffect (s .memory) (snapshot t h) → IsEffect (s .memory) (snapshot t' h) → t ≡ t'
-  left-once h t t' a b = left-then t a ∙ sym (left-then t' b)
-    where
-      left-then : (t : ℕ) → IsEffect (s .memory) (snapshot t h) → t ≡ s .memory .camera .left-at h
-      left-then t (of-counter h' p e) = ap time e ∙ ap (s .memory .camera .left-at) (sym (ap effect-item e))
-      left-then t (of-version i zero p e) = absurd (omega (arith, ap effect-tag e))
-      left-then t (of-version i (suc j) p e) = absurd (omega (arith, ap effect-tag e))
+  left-once h t t' a b = left-then (s .memory) h t a .1 ∙ sym (left-then (s .memory) h t' b .1)
+
+  -- it leaves them in their order
+  left-in-turn : (g h t : ℕ) → IsEffect (s .memory) (snapshot t h) → g < h → (u : ℕ) × In (snapshot u g) (effects run) × (u < t)
+  left-in-turn g h t a p =
+      let y : (h < s .memory .camera .counter) × (t ≡ s .memory .camera .left-at h) = left-then (s .memory) h t a in
+      (s .memory .camera .left-at g, listed .memory .snapshots g (omega arith),
+        omega (arith, y .1, invariant .kept .memory .left-rises g h p (y .0)))
 
   all-told : (x : Effect) → TellsOf run x → In x (effects run)
   all-told (birth t i v z) (past, n, e) = subst (λ (t : ℕ). In (birth t i v z) (effects run)) e (birth-among i v z past run n)
@@ -209,6 +211,12 @@ module _ (limits : Limits) (cs : List Call) where
   leaves-once h t t' a b =
       left-once (after-calls limits cs) (run-right limits cs) (machine-notes limits cs) (traced limits cs) (moments limits cs) (effected limits cs)
         h t t' (effected limits cs .memory .only (snapshot t h) a) (effected limits cs .memory .only (snapshot t' h) b)
+
+  pub in-turn : (g h t : ℕ) → In (snapshot t h) (effects (machine-notes limits cs)) → g < h →
+      (u : ℕ) × In (snapshot u g) (effects (machine-notes limits cs)) × (u < t)
+  in-turn g h t a p =
+      left-in-turn (after-calls limits cs) (run-right limits cs) (machine-notes limits cs) (traced limits cs) (moments limits cs) (effected limits cs)
+        g h t (effected limits cs .memory .only (snapshot t h) a) p
 
   pub exactly : (x : Effect) → In x (effects (machine-notes limits cs)) ↔ TellsOf (machine-notes limits cs) x
   exactly x =

@@ -44,6 +44,12 @@ pub data IsEffect (m : Memory) (x : Effect) : Type 0 where
   of-version : (i j : ℕ) → j < m .item i .valid → x ≡ version-effect (m .item i) i j → IsEffect m x
   of-counter : (h : ℕ) → h < m .camera .counter → x ≡ snapshot-effect (m .camera) h → IsEffect m x
 
+-- the counter left h at t
+pub left-then : (m : Memory) (h t : ℕ) → IsEffect m (snapshot t h) → (h < m .camera .counter) × (t ≡ m .camera .left-at h)
+left-then m h t (of-counter h' p e) = (omega (arith, ap effect-item e), ap time e ∙ ap (m .camera .left-at) (sym (ap effect-item e)))
+left-then m h t (of-version i zero p e) = absurd (omega (arith, ap effect-tag e))
+left-then m h t (of-version i (suc j) p e) = absurd (omega (arith, ap effect-tag e))
+
 -- what a version adds to a count of changes, and an item to the number of those born up to τ
 abbrev pub counted : (i τ f : ℕ) → Item → ℕ → ℕ
 counted i τ f it j = changes-between i τ f (version-effect it i j ∷ [])

@@ -15,7 +15,8 @@ use Rattle.history.specs.Notes.{Note, ledger, Effect, time, object-at, c
 use Rattle.history.specs.Effects.{effects}
 use Rattle.history.specs.Notes as Notes
 use Rattle.history.specs.NoteParts.{ending-tag}
-use Rattle.history.specs.Statements.{found-by, read-lines, ExactRead}
+use Rattle.history.specs.Notes.{found-by, read-lines}
+use Rattle.history.specs.Statements.{ExactRead}
 use Rattle.history.specs.Machine.{Item, Limits, Place, Catalogue, after-calls}
 use Rattle.history.specs.Facts.{Sees, Read}
 use Rattle.history.specs.Places.{ObserverRight, PlaceRight, Invariant}

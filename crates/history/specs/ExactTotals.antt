@@ -12,7 +12,8 @@ use Rattle.history.specs.Definition1.{Operation, total}
 use Rattle.history.specs.Notes.{Note, ledger, Effect, object-at, changes-between}
 use Rattle.history.specs.Effects.{effects}
 use Rattle.history.specs.Notes as Notes
-use Rattle.history.specs.Statements.{read-lines, TotalLines, no-item, born-later, read, ExactTotal}
+use Rattle.history.specs.Notes.{read-lines}
+use Rattle.history.specs.Statements.{TotalLines, no-item, born-later, read, ExactTotal}
 use Rattle.history.specs.Machine.{Limits, Place, unplaced, awaits, changes, observes, Catalogue, after-calls}
 use Rattle.history.specs.RightAnswers.{RightAnswer, TotalRead, AtLastStep}
 use Rattle.history.specs.Places.{ObserverRight, PlaceRight, Invariant}

@@ -5,7 +5,7 @@ use mathlib.Core.Bool.{Bool, cond}
 use mathlib.Core.List.{List, [], _∷_, _++_}
 use Prim.Native.Nat.{ℕ, suc, _+_, _≤_, _<_}
 use lib.Dec.{eqb}
-pub use Rattle.history.specs.Statements.{helped, read-lines}
+pub use Rattle.history.specs.Notes.{helped, read-lines}
 use Rattle.history.specs.Machine.{Item, Camera, Memory}
 
 -- ---- facts
@@ -99,6 +99,7 @@ pub record ItemFacts (t : ℕ) (k : Camera) (it : Item) : Type 0 where
 
 pub record MemoryFacts (t : ℕ) (m : Memory) : Type 0 where
   pub left-past : (h : ℕ) → h < m .camera .counter → m .camera .left-at h < t
+  pub left-rises : (g h : ℕ) → g < h → h < m .camera .counter → m .camera .left-at g < m .camera .left-at h
   pub item : (i : ℕ) → ItemFacts t (m .camera) (m .item i)
   pub births : (i n : ℕ) → i < n → n < m .items → m .item i .author 0 < m .item n .author 0
   pub registered : (i : ℕ) → i < m .items → 0 < m .item i .valid

@@ -7,7 +7,7 @@ use lib.Dec.{ltb, eqb}
 use lib.ListN.{replicate}
 use Rattle.history.specs.Tools.{by-eq, by-lt}
 use Rattle.history.specs.Notes.{Deed, found-onto}
-use Rattle.history.specs.Statements.{helped, found-by, read-lines}
+use Rattle.history.specs.Notes.{helped, found-by, read-lines}
 use Rattle.history.specs.Machine.{Memory, Then, then-39, then-43, then-48, then-52, then-34, then-total-34, Phase, line-37, line-39, line-41,
     line-43, line-45, line-46, line-48, line-50, line-51, line-52, line-5, line-6, line-32, line-34, total-32, total-34, closing, line-20, line-21,
     line-22, after, helped-item, line-number, Comes, goes-on, ends-with, answers-change, answers, line}

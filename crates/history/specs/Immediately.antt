@@ -15,7 +15,7 @@ use Rattle.history.specs.Statements.{Executed, LostTo, In, Falling, Imme
 use Rattle.history.specs.Machine.{Item, Place, unplaced, awaits, changes, observes, Catalogue}
 use Rattle.history.specs.RightAnswers.{RightAnswer, TotalRead, AtLastStep}
 use Rattle.history.specs.Places.{ChangeRight, ObserverRight, PlaceRight, Invariant}
-use Rattle.history.specs.OneOrder.{key-of}
+use Rattle.history.specs.MachineOrder.{key-of}
 use Rattle.history.specs.OrderShown.{operation-tag}
 use Rattle.history.specs.Order.{has-one-order}
 use Rattle.history.specs.Trace.{HeadTraced, CasTraced, ends-43, ends-48, ends-52, EndTraced, Stamping, Traced, noted-past}
@@ -135,7 +135,7 @@ module _ (s : Catalogue) (invariant : Invariant s) (run : List Note) (T : Traced
   -- an operation that saw at that instant lost to this change
   sees-then : (q t j x : ℕ) → s .place q ≡ observes t j x → t ≡ s .memory .item i .effect-at (suc g) → (op : Operation) → s .fate q .operation ≡ op →
       EndTraced (s .memory) run q op (s .fate q .lines) (s .place q) →
-    LostTo run q i (s .memory .item i .published-at (suc g))
+    LostTo run q i (s .memory .item i .author (suc g))
   sees-then q t j x at e (register a b c) w E =
       absurd (subst (λ (op : Operation). RightAnswer (s .memory) op q (s .fate q .lines) t j x) w (seen q t j x at .seen))
     where
@@ -144,7 +144,7 @@ module _ (s : Catalogue) (invariant : Invariant s) (run : List Note) (T : Traced
   sees-then q t j x at e (v-read i') w E = absurd (head-not q 37 i' (s .place q) (omega arith) E (sym (ap observed-at (E .is)) ∙ ap observed-at at ∙ e))
   sees-then q t j x at e (v-cas i' a b) w E = by E
     where
-      by : CasTraced (s .memory) run q i' (s .fate q .lines) (s .place q) → LostTo run q i (s .memory .item i .published-at (suc g))
+      by : CasTraced (s .memory) run q i' (s .fate q .lines) (s .place q) → LostTo run q i (s .memory .item i .author (suc g))
       by (ends-43 z H) = absurd (head-not q 41 i' (s .place q) (omega arith) H (sym (ap observed-at (H .is)) ∙ ap observed-at at ∙ e))
       by (ends-48 z k p m) =
           let c : s .place q ≡ changes i' (suc k) = ap (s .place) (sym m)
@@ -153,8 +153,8 @@ module _ (s : Catalogue) (invariant : Invariant s) (run : List Note) (T : Traced
       by (ends-52 z H) =
           let n : (i' ≡ i) × (suc (H .g) ≡ suc g) = same-change i' (suc (H .g)) (H .good) (sym (H .at) ∙ sym (ap observed-at (H .is)) ∙ ap observed-at at
               ∙ e) in
-          subst (λ (k : ℕ). LostTo run q i (s .memory .item i .published-at k)) (n .1)
-            (subst (λ (n : ℕ). LostTo run q n (s .memory .item n .published-at (suc (H .g)))) (n .0) (lost-to s invariant run T q i' (H .g) (H .lost)))
+          subst (λ (k : ℕ). LostTo run q i (s .memory .item i .author k)) (n .1)
+            (subst (λ (n : ℕ). LostTo run q n (s .memory .item n .author (suc (H .g)))) (n .0) (lost-to s invariant run T q i' (H .g) (H .lost)))
   sees-then q t j x at e take-snapshot w E =
       let O : ObserverRight (s .now) q t j x (s .memory) (s .fate q) = subst (λ (p : Place). PlaceRight (s .now) q (s .memory) (s .fate q) p) at
           (invariant .kept .places q) in
@@ -189,7 +189,7 @@ module _ (s : Catalogue) (invariant : Invariant s) (run : List Note) (T : Traced
   -- all that stands at that instant
   at-instant : (q : ℕ) → 2 * s .memory .item i .effect-at (suc g) ≤ key-of (s .memory) (s .place q) →
       key-of (s .memory) (s .place q) ≤ 2 * s .memory .item i .effect-at (suc g) + 1 →
-    (q ≡ s .memory .item i .author (suc g)) ⊎ LostTo run q i (s .memory .item i .published-at (suc g))
+    (q ≡ s .memory .item i .author (suc g)) ⊎ LostTo run q i (s .memory .item i .author (suc g))
   at-instant q a b = by (s .place q) refl a b
     where
       late : 0 < s .memory .item i .effect-at (suc g)
@@ -199,7 +199,7 @@ module _ (s : Catalogue) (invariant : Invariant s) (run : List Note) (T : Traced
       right p e = subst (λ (p : Place). PlaceRight (s .now) q (s .memory) (s .fate q) p) e (invariant .kept .places q)
       by : (p : Place) → s .place q ≡ p → 2 * s .memory .item i .effect-at (suc g) ≤ key-of (s .memory) p →
           key-of (s .memory) p ≤ 2 * s .memory .item i .effect-at (suc g) + 1 → (q ≡ s .memory .item i .author (suc g))
-          ⊎ LostTo run q i (s .memory .item i .published-at (suc g))
+          ⊎ LostTo run q i (s .memory .item i .author (suc g))
       by unplaced e a b = absurd (omega (arith, late))
       by (awaits u v) e a b = absurd (omega (arith, late))
       by (changes u v) e a b =
@@ -212,16 +212,16 @@ module _ (s : Catalogue) (invariant : Invariant s) (run : List Note) (T : Traced
 
 -- ---- in the order
 
-module _ (key : ℕ → ℕ) (run : List Note) (c i p o : ℕ) (h : (q : ℕ) → key c ≤ key q → key q ≤ key o → (q ≡ c) ⊎ LostTo run q i p) where
+module _ (key : ℕ → ℕ) (run : List Note) (c i o : ℕ) (h : (q : ℕ) → key c ≤ key q → key q ≤ key o → (q ≡ c) ⊎ LostTo run q i c) where
   -- the list up to c: only operations that lost
   abbrev Behind : List ℕ → Type 0
-  Behind l = (between : List ℕ) × (older : List ℕ) × (l ≡ between ++ (c ∷ older)) × ((q : ℕ) → In q between → LostTo run q i p)
+  Behind l = (between : List ℕ) × (older : List ℕ) × (l ≡ between ++ (c ∷ older)) × ((q : ℕ) → In q between → LostTo run q i c)
 
-  one-behind : (q : ℕ) (l : List ℕ) → LostTo run q i p → Behind l → Behind (q ∷ l)
+  one-behind : (q : ℕ) (l : List ℕ) → LostTo run q i c → Behind l → Behind (q ∷ l)
   one-behind q l x y = (q ∷ y .0, y .1, ap (λ (l : List ℕ). q ∷ l) (y .2), lost)
     where
-      lost : (q' : ℕ) → In q' (q ∷ y .0) → LostTo run q' i p
-      lost q' (inl e) = subst (λ (q : ℕ). LostTo run q i p) (sym e) x
+      lost : (q' : ℕ) → In q' (q ∷ y .0) → LostTo run q' i c
+      lost q' (inl e) = subst (λ (q : ℕ). LostTo run q i c) (sym e) x
       lost q' (inr n) = y .3 q' n
 
   behind : (l : List ℕ) → Falling key l → In c l → ((q : ℕ) → In q l → key q ≤ key o) → Behind l
@@ -230,7 +230,7 @@ module _ (key : ℕ → ℕ) (run : List Note) (c i p o : ℕ) (h : (q : ℕ) �
     where
       found : q ≡ c → Behind (q ∷ l)
       found e = ([], l, ap (λ (q : ℕ). q ∷ l) e, λ q n. absurd n)
-      step : (In c l → Behind l) → In c l → (q ≡ c) ⊎ LostTo run q i p → Behind (q ∷ l)
+      step : (In c l → Behind l) → In c l → (q ≡ c) ⊎ LostTo run q i c → Behind (q ∷ l)
       step g m (inl e) = found e
       step g m (inr x) = one-behind q l x (g m)
       by : (In c l → Behind l) → In c (q ∷ l) → Behind (q ∷ l)
@@ -239,7 +239,7 @@ module _ (key : ℕ → ℕ) (run : List Note) (c i p o : ℕ) (h : (q : ℕ) �
 
   abbrev RightAfter : List ℕ → Type 0
   RightAfter l = (newer : List ℕ) × (between : List ℕ) × (older : List ℕ) × (l ≡ newer ++ (o ∷ (between ++ (c ∷ older)))) ×
-      ((q : ℕ) → In q between → LostTo run q i p)
+      ((q : ℕ) → In q between → LostTo run q i c)
 
   -- c is older than o
   older : (l : List ℕ) → Falling key l → key c < key o → In o l → In c l → RightAfter l
@@ -265,9 +265,7 @@ module _ (s : Catalogue) (invariant : Invariant s) (run : List Note) (T : Traced
       by (ends-43 z H) = absurd (omega (arith, l, z))
       by (ends-48 z k p m) = absurd (omega (arith, l, z))
       by (ends-52 z H) =
-          (s .memory .item i .author (suc (H .g)), s .memory .item i .value (suc (H .g)), s .memory .item i .published-at (suc (H .g)),
-            lost-to s invariant run T o i (H .g) (H .lost), T .memory .published i (H .g) (H .lost .soon),
-            after .0, after .1, after .2, after .3, after .4)
+          (s .memory .item i .author (suc (H .g)), lost-to s invariant run T o i (H .g) (H .lost), after .0, after .1, after .2, after .3, after .4)
         where
           loss-key : key-of (s .memory) (s .place o) ≡ 2 * s .memory .item i .effect-at (suc (H .g)) + 1
           loss-key = ap (key-of (s .memory)) (H .is) ∙ ap (λ (t : ℕ). 2 * t + 1) (H .at)
@@ -276,12 +274,10 @@ module _ (s : Catalogue) (invariant : Invariant s) (run : List Note) (T : Traced
               (invariant .kept .versions-right i (suc (H .g)) (omega (arith, H .good, invariant .kept .memory .item i .valid-published)) .valid (H .good))
           near : (q : ℕ) → key-of (s .memory) (s .place (s .memory .item i .author (suc (H .g)))) ≤ key-of (s .memory) (s .place q) →
               key-of (s .memory) (s .place q) ≤ key-of (s .memory) (s .place o) →
-              (q ≡ s .memory .item i .author (suc (H .g))) ⊎ LostTo run q i (s .memory .item i .published-at (suc (H .g)))
+              (q ≡ s .memory .item i .author (suc (H .g))) ⊎ LostTo run q i (s .memory .item i .author (suc (H .g)))
           near q a b = at-instant s invariant run T M i (H .g) (H .good) q (omega (arith, change-key)) (omega (arith, loss-key))
-          after : RightAfter (λ q. key-of (s .memory) (s .place q)) run (s .memory .item i .author (suc (H .g))) i
-              (s .memory .item i .published-at (suc (H .g))) o near (has-one-order s invariant .order)
+          after : RightAfter (λ q. key-of (s .memory) (s .place q)) run (s .memory .item i .author (suc (H .g))) i o near (has-one-order s invariant .order)
           after =
-              older (λ q. key-of (s .memory) (s .place q)) run (s .memory .item i .author (suc (H .g))) i
-                  (s .memory .item i .published-at (suc (H .g))) o near
+              older (λ q. key-of (s .memory) (s .place q)) run (s .memory .item i .author (suc (H .g))) i o near
               (has-one-order s invariant .order) (has-one-order s invariant .keys) (omega (arith, change-key, loss-key))
               (has-one-order s invariant .all o (done-past s invariant o d) d) (has-one-order s invariant .changed i (suc (H .g)) (H .good))

@@ -100,10 +100,10 @@ module _ (s : Catalogue) (invariant : Invariant s) (run : List Note) (T : Traced
       (s .memory .item i .value (suc j), s .memory .item i .published-at (suc j), s .memory .item i .stamped-at (suc j),
         T .memory .published i j (omega (arith, invariant .kept .memory .item i .valid-published)), change-stamped i j g)
 
-  pub lost-to : (o i g : ℕ) → LostAt (s .memory .item i) run o i g → LostTo run o i (s .memory .item i .published-at (suc g))
+  pub lost-to : (o i g : ℕ) → LostAt (s .memory .item i) run o i g → LostTo run o i (s .memory .item i .author (suc g))
   lost-to o i g x =
-      (x .fetched .valid, x .f, x .fetched .executed,
-        (s .memory .item i .author (suc g), s .memory .item i .value (suc g), T .memory .published i g (x .soon)),
+      (x .f, s .memory .item i .value (suc g), s .memory .item i .published-at (suc g), (x .fetched .valid, x .fetched .executed),
+        T .memory .published i g (x .soon),
         (x .fetched .got .next (x .soon), λ p' e q. at p' q (T .memory .publishes-only (e .0) i (e .1) p' (e .2))))
     where
       at : (p' : ℕ) → x .f < p' → (j' : ℕ) × (suc j' < s .memory .item i .versions) × (p' ≡ s .memory .item i .published-at (suc j')) →
@@ -119,7 +119,4 @@ module _ (s : Catalogue) (invariant : Invariant s) (run : List Note) (T : Traced
 
   pub loss-instant : (o i g : ℕ) → LostAt (s .memory .item i) run o i g → suc g < s .memory .item i .valid →
       LossInstant run o i (s .memory .item i .effect-at (suc g))
-  loss-instant o i g x v =
-      (s .memory .item i .published-at (suc g), s .memory .item i .stamped-at (suc g), lost-to o i g x,
-        first-stamp i (s .memory .item i .published-at (suc g)) g v (omega arith)
-            (omega (arith, invariant .kept .memory .item i .effect-after-46 (suc g) v, T .memory .stamped i g v .before)))
+  loss-instant o i g x v = (s .memory .item i .author (suc g), lost-to o i g x, change-instant i g v)

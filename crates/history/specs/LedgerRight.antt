@@ -12,7 +12,7 @@ use Rattle.history.specs.Tools.{put, put-all, put-both, put-same, put-ot
 use Rattle.history.specs.Notes.{Note, Fate, Ledger, found-onto, begins, continues, entered, ledger}
 use Rattle.history.specs.Notes as Notes
 use Rattle.history.specs.NoteParts.{ending-tag, ending-number}
-use Rattle.history.specs.Statements.{found-by}
+use Rattle.history.specs.Notes.{found-by}
 use Rattle.history.specs.Machine.{Limits, found, node-to-take, Operation, register, Phase, line-number, Effect, Comes, goes-on, ends-with,
     answers-change, answers, line, Worker, idle, busy, Catalogue, ended, turned-away, settle, affect, tick, is-idle, begun, registered, call, fresh,
     after-calls, first-phase}

@@ -15,7 +15,7 @@ pub mod EachLine
 pub mod Places
 pub mod Step
 pub mod Run
-pub mod OneOrder
+pub mod MachineOrder
 pub mod OrderList
 pub mod OrderShown
 pub mod Order
@@ -45,6 +45,7 @@ pub mod Examples
 pub mod CountsRight
 pub mod StepsTold
 pub mod InWork
+pub mod Accepts
 pub mod EffectLaws
 pub mod EffectsApart
 pub mod Promised

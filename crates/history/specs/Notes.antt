@@ -3,14 +3,13 @@
 use mathlib.Core.Path.{_≡_}
 use mathlib.Core.Logic.{_≢_}
 use Prim.Native.Nat.{ℕ, _+_, _<_}
-use mathlib.Core.Bool.{Bool, cond, not, _&&_}
-use mathlib.Core.List.{List, [], _∷_}
+use mathlib.Core.Bool.{Bool, true, false, cond, not, _&&_}
+use mathlib.Core.List.{List, [], _∷_, _++_}
 use lib.Dec.{ltb, leb, eqb}
-use lib.ListN.{length}
+use lib.ListN.{length, replicate}
 use Rattle.definitions.specs.declared.Answer.{Answer}
-use Rattle.definitions.specs.declared.PhaseRow.{PhaseRow}
 use Rattle.definitions.specs.Cells.{Cells, cells-of, counter, phase, item, node, new-node, seen, head, value, stamp}
-use Rattle.definitions.specs.Phases.{row-of, total-operation}
+use Rattle.definitions.specs.Phases.{row-of}
 use Rattle.definitions.specs.Damage.{TBD, any-of}
 use Rattle.definitions.specs.Calls.{Call, outcome}
 use Rattle.history.specs.Definition1.{Operation, register, v-read, v-cas, take-snapshot, read-snapshot, total, Object, put, with-value,
@@ -18,7 +17,7 @@ use Rattle.history.specs.Definition1.{Operation, register, v-read, v-cas
 
 -- What a line did that others can see, or saw of others:
 pub data Deed : Type 0 where
-  fetches : (i : ℕ) (valid : Bool) → Deed     -- lines 32, 37, 41 and 51: the head of item i, whose stamp is valid, or TBD (a total's are left out)
+  fetches : (i : ℕ) (valid : Bool) → Deed     -- lines 32, 37 and 41: the head of item i, whose stamp is valid, or TBD
   finds : (valid : Bool) → Deed               -- line 20: the stamp of the node that it helps is valid, or TBD
   publishes : (i v : ℕ) → Deed                -- line 46, where it succeeds: a node of value v becomes the head of item i
   stamps : (i v : ℕ) → Deed                   -- line 22, where it succeeds: a node of item i, of value v, has its stamp
@@ -40,18 +39,15 @@ pub data Note : Type 0 where
 
 -- ---- reading the words
 
--- lines 32, 37, 41 and 51, but not those of a total
-abbrev pub fetches-head : PhaseRow → Bool
-fetches-head r = any-of (eqb (r .line) 32 ∷ eqb (r .line) 37 ∷ eqb (r .line) 41 ∷ eqb (r .line) 51 ∷ []) && not (eqb (r .operation) total-operation)
-
--- what worker w's line does, by its row of the table of phases and the words before it
-abbrev pub deed-at : PhaseRow → Cells → ℕ → Deed
-deed-at r m w =
-    cond (fetches-head r) (fetches (m (item w)) (not (eqb (m (stamp (m (head (m (item w)))))) TBD)))
-    (cond (eqb (r .line) 20) (finds (not (eqb (m (stamp (m (node w)))) TBD)))
-    (cond (eqb (r .line) 46 && eqb (m (head (m (item w)))) (m (node w))) (publishes (m (item w)) (m (value (m (new-node w)))))
-    (cond (eqb (r .line) 22 && eqb (m (stamp (m (node w)))) TBD) (stamps (m (item w)) (m (value (m (node w)))))
-    (cond (eqb (r .line) 6 && eqb (m counter) (m (seen w))) (moves (m counter)) nothing))))
+-- what a line of worker w does, by the words before it
+abbrev pub deed-at : (line : ℕ) → Cells → (w : ℕ) → Deed
+deed-at line m w =
+    cond (any-of (eqb line 32 ∷ eqb line 37 ∷ eqb line 41 ∷ []))
+        (fetches (m (item w)) (not (eqb (m (stamp (m (head (m (item w)))))) TBD)))
+    (cond (eqb line 20) (finds (not (eqb (m (stamp (m (node w)))) TBD)))
+    (cond (eqb line 46 && eqb (m (head (m (item w)))) (m (node w))) (publishes (m (item w)) (m (value (m (new-node w)))))
+    (cond (eqb line 22 && eqb (m (stamp (m (node w)))) TBD) (stamps (m (item w)) (m (value (m (node w)))))
+    (cond (eqb line 6 && eqb (m counter) (m (seen w))) (moves (m counter)) nothing))))
 
 -- a step with its answer: finished, running, or ended with number 11 or 12; any other answer is a refusal
 abbrev pub step-note : (w line : ℕ) → Deed → Answer → Note
@@ -76,11 +72,20 @@ note-of (Call.read-snapshot w i h) a line deed = if-accepted a (started w (read-
 note-of (Call.total w q h) a line deed = if-accepted a (started w (total q h))
 note-of (Call.step w) a line deed = step-note w (line w) (deed w) a
 
+-- the call that starts an operation of worker w; a register is whole in its call
+abbrev pub start-of : (w : ℕ) → Operation → Call
+start-of w (register i v s) = Call.register v s
+start-of w (v-read i) = Call.v-read w i
+start-of w (v-cas i old new) = Call.v-cas w i old new
+start-of w take-snapshot = Call.take-snapshot w
+start-of w (read-snapshot i h) = Call.read-snapshot w i h
+start-of w (total r h) = Call.total w r h
+
 -- what a call on words is noted as
 unfoldable pub note : List ℕ → Call → Note
 note ws c =
     let m = cells-of ws in
-    note-of c (outcome ws c .answer) (λ w. row-of (m (phase w)) .line) (λ w. deed-at (row-of (m (phase w))) m w)
+    note-of c (outcome ws c .answer) (λ w. row-of (m (phase w)) .line) (λ w. deed-at (row-of (m (phase w)) .line) m w)
 
 -- ---- runs: the calls and the notes, the newest first
 
@@ -98,14 +103,7 @@ start ws p m n q c = outcome ws (Call.make p m n q c) .words
 
 -- The arguments of a call are numbers of their types. No refusal tests a register's size, which is any 32-bit number.
 abbrev pub Typed : Call → Type 0
-Typed (Call.make p m n q c) = Unit {0}
-Typed (Call.register v s) = s < 4294967296
-Typed (Call.v-read w i) = Unit {0}
-Typed (Call.v-cas w i old new) = Unit {0}
-Typed (Call.take-snapshot w) = Unit {0}
-Typed (Call.read-snapshot w i h) = Unit {0}
-Typed (Call.total w q h) = Unit {0}
-Typed (Call.step w) = Unit {0}
+Typed x = (v s : ℕ) → x ≡ Call.register v s → s < 4294967296
 
 -- A call of a run: its arguments are numbers of their types, and it is no accepted make.
 pub record Run-call (ws : List ℕ) (x : Call) : Type 0 where
@@ -163,6 +161,51 @@ entered t (stepped w line d e) l =
 unfoldable pub ledger : List Note → Ledger
 ledger [] = record { fate = λ o. begins take-snapshot 0 (ends-with 0) 0; current = λ w. 0 }
 ledger (x ∷ past) = entered (length past) x (ledger past)
+
+-- ---- the lines of an operation, the newest first
+
+-- Those of a help onto those before it: line 20 alone where it found a valid stamp, all three where it found TBD.
+abbrev pub helped : Bool → List ℕ → List ℕ
+helped false l = 20 ∷ l
+helped true l = 22 ∷ 21 ∷ 20 ∷ l
+
+-- What the lines 20 among them found, with the line that comes next: TBD where that is 21, else a valid stamp.
+abbrev pub found-by : (next : ℕ) → List ℕ → List Bool
+found-by next [] = []
+found-by next (line ∷ l) = cond (eqb line 20) (not (eqb next 21) ∷ found-by line l) (found-by line l)
+
+-- Those of a whole read of a snapshot: line 34 passed so many versions, and answered at the next.
+abbrev pub read-lines : Bool → ℕ → List ℕ
+read-lines tbd passed = 34 ∷ (replicate passed 34 ++ helped tbd (32 ∷ []))
+
+-- A vCAS ends at 43, after 3 or 5 steps; at 48 having changed the value, after 7 to 11; or at 52 having lost, after 9 to 13.
+pub data CasLines : List ℕ → Type 0 where
+  to-43 : {l : List ℕ} (tbd : Bool) → l ≡ 43 ∷ helped tbd (41 ∷ []) → CasLines l
+  to-48 : {l : List ℕ} (first second : Bool) → l ≡ 48 ∷ helped second (46 ∷ 45 ∷ 43 ∷ helped first (41 ∷ [])) → CasLines l
+  to-52 : {l : List ℕ} (first second : Bool) → l ≡ 52 ∷ helped second (51 ∷ 50 ∷ 46 ∷ 45 ∷ 43 ∷ helped first (41 ∷ [])) → CasLines l
+
+-- A vRead takes 3 or 5 steps, a takeSnapshot 2. The lines of a readSnapshot and of a total stand with their answers: ExactRead, ExactTotal.
+abbrev pub WholeLines : Operation → List ℕ → Type 0
+WholeLines (register i v s) l = l ≡ []
+WholeLines (v-read i) l = (tbd : Bool) × (l ≡ 39 ∷ helped tbd (37 ∷ []))
+WholeLines (v-cas i old new) l = CasLines l
+WholeLines take-snapshot l = l ≡ 6 ∷ 5 ∷ []
+WholeLines (read-snapshot i h) l = Unit {0}
+WholeLines (total q h) l = Unit {0}
+
+-- an operation that ended with number 11 or 12
+pub data RefusedLines (number : ℕ) (op : Operation) (l : List ℕ) : Type 0 where
+  no-node-left : (i old new : ℕ) (tbd : Bool) → number ≡ 11 → op ≡ v-cas i old new → l ≡ 45 ∷ 43 ∷ helped tbd (41 ∷ []) → RefusedLines number op l
+  counter-full : number ≡ 12 → op ≡ take-snapshot → l ≡ 5 ∷ [] → RefusedLines number op l
+
+-- the most steps that an operation may take
+abbrev pub most-steps : Operation → ℕ
+most-steps (register i v s) = 0
+most-steps (v-read i) = 5
+most-steps (v-cas i old new) = 13
+most-steps take-snapshot = 2
+most-steps (read-snapshot i h) = 5121
+most-steps (total q h) = 5121
 
 -- ---- what took effect, and when: births, changes and snapshots, the newest first
 

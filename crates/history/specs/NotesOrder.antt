@@ -7,19 +7,20 @@ use Prim.Native.Nat.{ℕ, zero, suc, _*_, _≤_, _<_}
 use native.Mathlib.Omega.{arith}
 use lib.ListN.{getD}
 use Rattle.definitions.specs.Calls.{Call}
-use Rattle.history.specs.Tools.{Split, split}
+use Rattle.history.specs.Tools.{Split, split, Same, eq, ne, same?}
 use Rattle.history.specs.Definition1.{Operation, register, v-read, v-cas, take-snapshot, read-snapshot, total, Act, Legal}
-use Rattle.history.specs.Notes.{Note, ledger}
+use Rattle.history.specs.Notes.{Note, ledger, snapshot}
 use Rattle.history.specs.Notes as Notes
-use Rattle.history.specs.Statements.{Executed, ChangeInstant, LossInstant, CasInstant, Instant}
+use Rattle.history.specs.Statements.{Executed, Moved, ChangeInstant, LossInstant, TakeInstant, CasInstant, Instant}
 use Rattle.history.specs.Statements as Told
-use Rattle.history.specs.Machine.{Limits, Catalogue, after-calls}
-use Rattle.history.specs.Places.{asked-for, Invariant}
+use Rattle.history.specs.Machine.{Limits, Place, Catalogue, after-calls}
+use Rattle.history.specs.Places.{asked-for, PlaceRight, Invariant}
+use Rattle.history.specs.Facts.{CounterWas}
 use Rattle.history.specs.Run.{run-right}
 use Rattle.history.specs.Instants.{stamped-first, head-instant, change-instant, loss-instant}
 use Rattle.history.specs.Moments.{Moments, moments}
 use Rattle.history.specs.Immediately.{same-event, right-after}
-use Rattle.history.specs.OneOrder.{time-of, Pending, Within, inside, in-call, OneOrder}
+use Rattle.history.specs.MachineOrder.{time-of, Pending, Within, inside, in-call}
 use Rattle.history.specs.OrderShown.{operation-tag}
 use Rattle.history.specs.OrderList.{order-to}
 use Rattle.history.specs.Order.{has-one-order, order-is}
@@ -27,9 +28,28 @@ use Rattle.history.specs.MachineNotes.{machine-notes}
 use Rattle.history.specs.LedgerRight.{is-answer, unanswered, Agrees, agrees}
 use Rattle.history.specs.Trace.{CasTraced, EndTraced, Traced}
 use Rattle.history.specs.Trace as Trace
+use Rattle.history.specs.Effects.{effects}
+use Rattle.history.specs.EffectsRight.{left-then}
+use Rattle.history.specs.EffectLaws.{snapshot-among}
+use Rattle.history.specs.EffectsRun.{Effected, effected}
 use Rattle.history.specs.TraceRun.{done-past, traced}
 
-module _ (s : Catalogue) (invariant : Invariant s) (run : List Note) (T : Traced s run) where
+module _ (s : Catalogue) (invariant : Invariant s) (run : List Note) (T : Traced s run) (E : Effected s run) where
+  -- when the counter left x, which line 5 of operation o read at f
+  take-instant : (o x f : ℕ) → x < s .memory .camera .counter → Executed run o 5 Notes.nothing f → CounterWas (s .memory .camera) f x →
+      TakeInstant run o x (s .memory .camera .left-at x)
+  take-instant o x f p r was =
+      (f, T .memory .left x p .0, r, T .memory .left x p .1, (was .ahead x (omega arith) p, λ t m q. first t q (m .1) (moved-then m) (split (m .1) x) (same? x (m .1))))
+    where
+      moved-then : {t : ℕ} (m : Moved run t) → (m .1 < s .memory .camera .counter) × (t ≡ s .memory .camera .left-at (m .1))
+      moved-then {t} m = left-then (s .memory) (m .1) t (E .memory .only (snapshot t (m .1))
+          (subst (λ (t : ℕ). Told.In (snapshot t (m .1)) (effects run)) (m .2 .at) (snapshot-among (m .2 .w) 6 (m .1) (m .2 .e) (m .2 .past) run (m .2 .noted))))
+      first : (t : ℕ) → f < t → (h : ℕ) → (h < s .memory .camera .counter) × (t ≡ s .memory .camera .left-at h) → Split h x → Same x h →
+          s .memory .camera .left-at x ≤ t
+      first t q h (g, e) (Split.less l) y = absurd (omega (arith, was .past h l))
+      first t q h (g, e) (Split.more l) (eq y) = omega (arith, ap (s .memory .camera .left-at) y)
+      first t q h (g, e) (Split.more l) (ne y) = omega (arith, invariant .kept .memory .left-rises x h (omega arith) g)
+
   -- the instant of an operation that answered
   the-instant : Agrees s run → (o : ℕ) (op : Operation) → s .fate o .operation ≡ op → s .fate o .done ≡ true →
       EndTraced (s .memory) run o op (s .fate o .lines) (s .place o) → Instant run o (s .fate o .answer) op (has-one-order s invariant .time o)
@@ -54,12 +74,13 @@ module _ (s : Catalogue) (invariant : Invariant s) (run : List Note) (T : Traced
       at (Trace.ends-52 q e) =
           inr (inr (q, subst (λ (τ : ℕ). LossInstant run o i τ) (sym (has-one-order s invariant .placed o ∙ ap (time-of (s .memory)) (e .is) ∙ e .at))
           (loss-instant s invariant run T o i (e .g) (e .lost) (e .good))))
-  the-instant A o take-snapshot w d e =
-      let z : (has-one-order s invariant .time o ≡ s .memory .camera .left-at (s .fate o .answer)) × (s .fate o .answer < s .memory .camera .counter) =
-          has-one-order s invariant .instants .of-take o w d in
-      let y : (q : ℕ) × Executed run q 6 (Notes.moves (s .fate o .answer)) (s .memory .camera .left-at (s .fate o .answer)) =
-          T .memory .left (s .fate o .answer) (z .1) in
-      (y .0, subst (λ (τ : ℕ). Executed run (y .0) 6 (Notes.moves (s .fate o .answer)) τ) (sym (z .0)) (y .1))
+  the-instant A o take-snapshot w d e = subst (λ (τ : ℕ). TakeInstant run o (s .fate o .answer) τ) (sym (z .0))
+      (take-instant o (s .fate o .answer) (e .r) (z .1) (e .read) (subst (λ (x : ℕ). CounterWas (s .memory .camera) (e .r) x) same (e .was)))
+    where
+      z : (has-one-order s invariant .time o ≡ s .memory .camera .left-at (s .fate o .answer)) × (s .fate o .answer < s .memory .camera .counter)
+      z = has-one-order s invariant .instants .of-take o w d
+      same : e .x ≡ s .fate o .answer
+      same = sym (subst (λ (p : Place). PlaceRight (s .now) o (s .memory) (s .fate o) p) (e .is) (invariant .kept .places o) .is)
   the-instant A o (read-snapshot i h) w d e = has-one-order s invariant .instants .of-read-snapshot o i h w d ∙ sym (A .fate o .done d .2)
   the-instant A o (total q h) w d e = has-one-order s invariant .instants .of-total o q h w d ∙ sym (A .fate o .done d .2)
 
@@ -139,7 +160,7 @@ module _ (s : Catalogue) (invariant : Invariant s) (run : List Note) (T : Traced
 
 -- demand 2, for the notes of every run of the machine
 pub notes-order : (limits : Limits) (cs : List Call) → Told.OneOrder (machine-notes limits cs)
-notes-order limits cs = told (after-calls limits cs) (run-right limits cs) (machine-notes limits cs) (traced limits cs) (agrees limits cs)
+notes-order limits cs = told (after-calls limits cs) (run-right limits cs) (machine-notes limits cs) (traced limits cs) (effected limits cs) (agrees limits cs)
     (moments limits cs)
 
 pub notes-order-is : (limits : Limits) (cs : List Call) → notes-order limits cs .order ≡ order-to (after-calls limits cs .memory)

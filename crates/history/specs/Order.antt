@@ -15,7 +15,7 @@ use Rattle.history.specs.Places.{asked-for, ChangeRight, ObserverRight, 
 use Rattle.history.specs.Definition1.{object}
 use Rattle.definitions.specs.Calls.{Call}
 use Rattle.history.specs.Run.{run-right}
-use Rattle.history.specs.OneOrder.{time-of, Pending, Within, inside, in-call, CasInstant, by-change, at-43, at-52, Instants, OneOrder}
+use Rattle.history.specs.MachineOrder.{time-of, Pending, Within, inside, in-call, CasInstant, by-change, at-43, at-52, Instants, MachineOrder}
 use Rattle.history.specs.OrderList.{keyed, answer-at, acts-of, slot-onto, order-to, Good, listed-skip, listed-take, listed-next, shown-skip,
     shown-next, change-key, author-past}
 use Rattle.history.specs.OrderShown.{operation-tag, asked-tag, change-operation, shown-observer, shown-change}
@@ -219,7 +219,7 @@ module _ (s : Catalogue) (invariant : Invariant s) where
       cas-chg o i a b i' j' w e C = subst (λ (i : ℕ). CasInstant s o (s .memory .item i' .effect-at j') i) (sym (made-item (s .memory .item i') i' j')
           ∙ ap operation-item (sym (change-operation s invariant o i' j' e) ∙ w)) (by-change j' (C .mine) (C .good) refl)
 
-  pub has-one-order : OneOrder s
+  pub has-one-order : MachineOrder s
   unfolding acts-of
   has-one-order =
       record {
@@ -249,5 +249,5 @@ unfolding has-one-order
 order-is s invariant = refl
 
 -- demand 2, for this machine
-pub one-order : (limits : Limits) (cs : List Call) → OneOrder (after-calls limits cs)
+pub one-order : (limits : Limits) (cs : List Call) → MachineOrder (after-calls limits cs)
 one-order limits cs = has-one-order (after-calls limits cs) (run-right limits cs)

@@ -12,7 +12,7 @@ use Rattle.history.specs.Facts.{Sees}
 use Rattle.history.specs.RightAnswers.{change-answer}
 use Rattle.history.specs.Places.{Invariant}
 use Rattle.history.specs.Definition1.{Act, Object, object, Answered, Legal}
-use Rattle.history.specs.OneOrder.{In, Once, Falling, time-of, key-of}
+use Rattle.history.specs.MachineOrder.{In, Once, Falling, time-of, key-of}
 
 -- ---- keys
 
@@ -179,6 +179,14 @@ module _ (s : Catalogue) (invariant : Invariant s) where
           s .memory .item i .effect-at c < s .memory .item i .effect-at (suc j)
       at f (eq e) = subst (λ (c : ℕ). s .memory .item i .effect-at c < s .memory .item i .effect-at (suc j)) (sym e) (effect-next i j q)
       at f (ne e) = omega (arith, f (omega arith) (omega arith), effect-next i j q)
+
+  -- an item was registered before any of its versions is seen
+  pub born-seen : (i τ j : ℕ) → Sees (s .memory .item i) τ j → s .memory .item i .effect-at 0 ≤ τ
+  born-seen i τ j a = at (same? 0 j)
+    where
+      at : Same 0 j → s .memory .item i .effect-at 0 ≤ τ
+      at (eq e) = subst (λ (j : ℕ). s .memory .item i .effect-at j ≤ τ) (sym e) (a .begun)
+      at (ne e) = omega (arith, effects-rise i 0 j (omega arith) (a .have), a .begun)
 
   pub author-past : (i j : ℕ) → j < s .memory .item i .valid → s .memory .item i .author j < s .now
   author-past i j p = omega (arith, invariant .kept .memory .item i .author-first j (omega (arith, invariant .kept .memory .item i .valid-published)),

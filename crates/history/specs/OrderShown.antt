@@ -13,8 +13,8 @@ use Rattle.history.specs.Facts.{Sees, Sum, empty, skip, plus}
 use Rattle.history.specs.RightAnswers.{RightAnswer, CasSees, differs, same, SnapshotRead, TotalRead, change-answer}
 use Rattle.history.specs.Places.{asked-for, ChangeRight, ObserverRight, PlaceRight, Invariant, not-observing}
 use Rattle.history.specs.Definition1.{Act, Object, apply, object, total-to, total-of, Answered, Right}
-use Rattle.history.specs.OneOrder.{In}
-use Rattle.history.specs.OrderList.{keyed, answer-at, shown-value, acts-of, Keyed, Listed, Shot, Shown, effects-rise, shown-is, find-act,
+use Rattle.history.specs.MachineOrder.{In}
+use Rattle.history.specs.OrderList.{keyed, answer-at, shown-value, acts-of, Keyed, Listed, Shot, Shown, effects-rise, born-seen, shown-is, find-act,
     find-take}
 
 abbrev pub operation-tag : Operation → ℕ
@@ -91,11 +91,7 @@ module _ (s : Catalogue) (invariant : Invariant s) where
   sum-is p h q g S (plus {i} {u} {l} j r x a) = at (sum-is p h q g S a) (split i (q .items))
     where
       born : s .memory .item i .effect-at 0 ≤ s .memory .camera .left-at h
-      born = at0 (same? 0 j)
-        where
-          at0 : Same 0 j → s .memory .item i .effect-at 0 ≤ s .memory .camera .left-at h
-          at0 (eq e) = subst (λ (j : ℕ). s .memory .item i .effect-at j ≤ s .memory .camera .left-at h) (sym e) (x .sees .begun)
-          at0 (ne e) = omega (arith, effects-rise s invariant i 0 j (omega arith) (x .sees .have), x .sees .begun)
+      born = born-seen s invariant i (s .memory .camera .left-at h) j (x .sees)
       at : u ≡ total-to (min i (q .items)) p q → Split i (q .items) →
           u + cond (eqb (s .memory .item i .value j) p) (s .memory .item i .size) 0 ≡ total-to (min (suc i) (q .items)) p q
       at e (Split.more b) = absurd (omega (arith, S .high i b (omega (arith, x .sees .have)), born))
@@ -131,11 +127,27 @@ module _ (s : Catalogue) (invariant : Invariant s) where
               (eqb-refl (2 * s .memory .camera .left-at h + 1))) (omega arith))
           (invariant .moved h g .operation) (ap (answer-at (s .fate (s .memory .camera .mover h) .operation)) (invariant .moved h g .at))
 
+    -- an item of which version j is seen is registered, in the object then and at a snapshot
+    item-there : (i j : ℕ) → Sees (s .memory .item i) τ j → i < object (acts-of s invariant l) .items
+    item-there i j a = at (split i (B .items))
+      where
+        at : Split i (B .items) → i < object (acts-of s invariant l) .items
+        at (Split.less p) = omega (arith, B .items-is)
+        at (Split.more p) =
+            absurd (omega (arith, B .high i p, B .after i 0 (omega (arith, B .high i p)) (omega (arith, a .have)), born-seen s invariant i τ j a, q))
+
+    item-then : (h i j : ℕ) (y : Object) → Shot s invariant h y → Sees (s .memory .item i) (s .memory .camera .left-at h) j → i < y .items
+    item-then h i j y S a = at (split i (y .items))
+      where
+        at : Split i (y .items) → i < y .items
+        at (Split.less p) = p
+        at (Split.more p) = absurd (omega (arith, S .high i p (omega (arith, a .have)), born-seen s invariant i (s .memory .camera .left-at h) j a))
+
     pub observer-right : (operation : Operation) (c : List ℕ) (j x : ℕ) → n < τ → RightAnswer (s .memory) operation n c τ j x →
         Right operation x (acts-of s invariant l)
     observer-right (register i v z) c j x b a = absurd a
-    observer-right (v-read i) c j x b a = a .1 ∙ sym (shown-is s invariant B q i j (a .0))
-    observer-right (v-cas i a b) c j x u y = at (y .1)
+    observer-right (v-read i) c j x b a = (item-there i j (a .0), a .1 ∙ sym (shown-is s invariant B q i j (a .0)))
+    observer-right (v-cas i a b) c j x u y = (item-there i j (y .0), at (y .1))
       where
         v : object (acts-of s invariant l) .value i ≡ s .memory .item i .value j
         v = shown-is s invariant B q i j (y .0)
@@ -150,7 +162,7 @@ module _ (s : Catalogue) (invariant : Invariant s) where
               let p : Keyed s invariant k n (f .0) = A .memory (f .0) (f .1) in
               absurd (omega (arith, total-late (p .key) (f .0) i x (p .has) (f .2), p .le, a .1)))
     observer-right (read-snapshot i h) c j x b a =
-        (took h (a .read .gone) (omega (arith, a .read .when)), λ p t. a .is ∙ sym (B .snaps h p t .value i j (a .read .sees)))
+        (took h (a .read .gone) (omega (arith, a .read .when)), λ p t. (item-then h i j (object p) (B .snaps h p t) (a .read .sees), a .is ∙ sym (B .snaps h p t .value i j (a .read .sees))))
     observer-right (total p h) c j x b a =
         (took h (a .gone) (omega (arith, a .when)), λ q t. total-seen p h n c τ x a (object q) (B .snaps h q t))
 
@@ -299,8 +311,12 @@ module _ (s : Catalogue) (invariant : Invariant s) where
     pub change-legal : (j : ℕ) → B .shown i ≡ j → Right (asked-for (s .memory .item i) i j) (change-answer (asked-for (s .memory .item i) i j))
         (acts-of s invariant l)
     change-legal zero c = (refl, B .items-is ∙ sym (next-item (cur-is ∙ sym cur-is ∙ c)))
-    change-legal (suc j) c = by-eq (λ (z : ℕ). 1 ≡ z) (object (acts-of s invariant l) .value i) (s .memory .item i .value j) (λ f. refl)
-        (λ f. absurd (f (B .value i ∙ ap (shown-value (s .memory .item i)) c)))
+    change-legal (suc j) c = (there (split i (B .items)), by-eq (λ (z : ℕ). 1 ≡ z) (object (acts-of s invariant l) .value i) (s .memory .item i .value j)
+        (λ f. refl) (λ f. absurd (f (B .value i ∙ ap (shown-value (s .memory .item i)) c))))
+      where
+        there : Split i (B .items) → i < object (acts-of s invariant l) .items
+        there (Split.less p) = omega (arith, B .items-is)
+        there (Split.more p) = absurd (omega (arith, B .high i p))
 
     pub change-value : (j : ℕ) → B .shown i ≡ j → (i' : ℕ) →
         apply (asked-for (s .memory .item i) i j) (object (acts-of s invariant l)) .value i' ≡ shown-value (s .memory .item i')

@@ -11,7 +11,7 @@ use Rattle.history.specs.NotesOrder.{notes-order}
 use Rattle.history.specs.ExactReads.{exact-reads}
 use Rattle.history.specs.ExactTotals.{exact-totals, total-most}
 use Rattle.history.specs.CountsRight.{whole-lines, refused-lines, progress}
-use Rattle.history.specs.EffectsApart.{ordered, apart, leaves-once, exactly}
+use Rattle.history.specs.EffectsApart.{ordered, apart, leaves-once, in-turn, exactly}
 
 unfoldable pub promised : (limits : Limits) → limits .items ≤ 256 → limits .nodes ≤ 4096 → (cs : List Call) →
     Promises (machine-notes limits cs) (effects (machine-notes limits cs))
@@ -20,4 +20,4 @@ promised limits few-items few-nodes cs =
       one-order = notes-order limits cs; reads = exact-reads limits cs; totals = exact-totals limits cs; total-steps = total-most limits few-items few-nodes cs;
       whole-lines = whole-lines limits cs; refused-lines = refused-lines limits cs; progress = progress limits few-items few-nodes cs;
           ordered = ordered limits cs;
-      apart = apart limits cs; leaves-once = leaves-once limits cs; helps = agrees limits cs .helps; exactly = exactly limits cs }
+      apart = apart limits cs; leaves-once = leaves-once limits cs; in-turn = in-turn limits cs; helps = agrees limits cs .helps; exactly = exactly limits cs }

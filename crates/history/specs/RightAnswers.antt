@@ -8,7 +8,7 @@ use Rattle.history.specs.Machine.{Item, Memory, Operation, register, v-r
     then-43, then-48, then-52, then-34, then-total-34, Phase, line-37, line-39, line-41, line-43, line-45, line-46, line-48, line-50, line-51,
     line-52, line-5, line-6, line-32, line-34, total-32, total-34, closing, line-20, line-21, line-22, Effect, nothing, counts, publishes, stamps,
     takes-node, gives-back, Comes, goes-on, ends-with, answers-change, answers, Next, Entry, line-number, memory-after}
-pub use Rattle.history.specs.Statements.{CasLines, to-43, to-48, to-52, WholeLines, RefusedLines, no-node-left, counter-full}
+pub use Rattle.history.specs.Notes.{CasLines, to-43, to-48, to-52, WholeLines, RefusedLines, no-node-left, counter-full}
 use Rattle.history.specs.Facts.{Sees, Fetched, Read, Sum}
 use Rattle.history.specs.Changes.{Allowed}
 use Rattle.history.specs.PhaseFacts.{PhaseFacts}

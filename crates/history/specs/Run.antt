@@ -170,7 +170,7 @@ module _ (s : Catalogue) (invariant : Invariant s) where
       memory : MemoryFacts (suc (s .now)) m'
       memory =
           record {
-            left-past = λ h p. omega (arith, invariant .kept .memory .left-past h p);
+            left-past = λ h p. omega (arith, invariant .kept .memory .left-past h p); left-rises = invariant .kept .memory .left-rises;
             item = λ n. put-all (λ (n : ℕ) (x : Item). ItemFacts (suc (s .now)) (m .camera) x) (m .item) (m .items) it n
                 (λ e. newborn-facts (invariant .kept .memory .left-past)) (λ e. item-stays camera-stays (invariant .kept .memory .item n));
             births = λ a b p q. put-all (λ (a : ℕ) (x : Item). a < b → x .author 0 < put (m .item) (m .items) it b .author 0) (m .item) (m .items) it a
@@ -243,7 +243,7 @@ fresh-right limits =
     record {
       kept = record {
         memory = record {
-          left-past = λ h p. absurd (omega arith); registered = λ i p. absurd (omega arith); unregistered = λ i p. refl;
+          left-past = λ h p. absurd (omega arith); left-rises = λ g h p q. absurd (omega arith); registered = λ i p. absurd (omega arith); unregistered = λ i p. refl;
               births = λ i n p q. absurd (omega arith);
           item = λ i. record {
             valid-published = omega arith; one-open = omega arith; first = λ p. omega arith; birth = λ p. absurd (omega arith);

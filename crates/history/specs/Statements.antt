@@ -1,4 +1,4 @@
--- What is promised of a run, told by its notes: the instants of document 01, the one order of demand 2, the exact reads of demand 3, lines and steps.
+-- What is promised of a run: the instants of document 01, the one order of demand 2, the exact reads of demand 3, lines and steps, never damage.
 -- Letters: o, q and c are operations, named by the times of their starts; i is an item, v a value, h a handle; τ is an instant, and t, f, p, r and s
 -- are times of calls: f of a fetch of the head, p of a publication at 46, r of a line 21 and s of the line 22 after it.
 use mathlib.Core.Path.{_≡_}
@@ -6,11 +6,13 @@ use mathlib.Core.Logic.{_≢_, _⊎_, _↔_}
 use mathlib.Core.Bool.{Bool, true, false, cond, not}
 use mathlib.Core.List.{List, [], _∷_, _++_, map}
 use Prim.Native.Nat.{ℕ, suc, _+_, _≤_, _<_}
-use lib.Dec.{eqb}
-use lib.ListN.{length, getD, replicate}
+use lib.ListN.{length, getD}
+use Rattle.definitions.specs.Calls.{Call, outcome}
+use Rattle.cells.specs.WellFormed.{Well-formed}
 use Rattle.history.specs.Definition1.{Operation, register, v-read, v-cas, take-snapshot, read-snapshot, total, total-of, Follows, Legal}
 use Rattle.history.specs.Notes.{Deed, fetches, publishes, stamps, moves, nothing, Ending, goes-on, answers, ends-with, Note, registered,
-    stepped, Fate, ledger, Effect, birth, change, snapshot, time, object-at, changes-between}
+    started, stepped, start-of, note, Run-call, damaged-code, Fate, ledger, helped, found-by, read-lines, WholeLines, RefusedLines, most-steps, Effect,
+    birth, change, snapshot, time, object-at, changes-between}
 
 -- ---- lists and times
 
@@ -33,51 +35,6 @@ Falling {A} time (x ∷ l) = ((y : A) → In y l → time y ≤ time x) × Falli
 abbrev pub Next : (ℕ → Type 0) → (f t : ℕ) → Type 0
 Next P f t = (f < t) × ((t' : ℕ) → P t' → f < t' → t ≤ t')
 
--- ---- the lines of an operation, the newest first
-
--- Those of a help onto those before it: line 20 alone where it found a valid stamp, all three where it found TBD.
-abbrev pub helped : Bool → List ℕ → List ℕ
-helped false l = 20 ∷ l
-helped true l = 22 ∷ 21 ∷ 20 ∷ l
-
--- What the lines 20 among them found, with the line that comes next: TBD where that is 21, else a valid stamp.
-abbrev pub found-by : (next : ℕ) → List ℕ → List Bool
-found-by next [] = []
-found-by next (line ∷ l) = cond (eqb line 20) (not (eqb next 21) ∷ found-by line l) (found-by line l)
-
--- Those of a whole read of a snapshot: line 34 passed so many versions, and answered at the next.
-abbrev pub read-lines : Bool → ℕ → List ℕ
-read-lines tbd passed = 34 ∷ (replicate passed 34 ++ helped tbd (32 ∷ []))
-
--- A vCAS ends at 43, after 3 or 5 steps; at 48 having changed the value, after 7 to 11; or at 52 having lost, after 9 to 13.
-pub data CasLines : List ℕ → Type 0 where
-  to-43 : {l : List ℕ} (tbd : Bool) → l ≡ 43 ∷ helped tbd (41 ∷ []) → CasLines l
-  to-48 : {l : List ℕ} (first second : Bool) → l ≡ 48 ∷ helped second (46 ∷ 45 ∷ 43 ∷ helped first (41 ∷ [])) → CasLines l
-  to-52 : {l : List ℕ} (first second : Bool) → l ≡ 52 ∷ helped second (51 ∷ 50 ∷ 46 ∷ 45 ∷ 43 ∷ helped first (41 ∷ [])) → CasLines l
-
--- A vRead takes 3 or 5 steps, a takeSnapshot 2. The lines of a readSnapshot and of a total stand with their answers: ExactRead, ExactTotal.
-abbrev pub WholeLines : Operation → List ℕ → Type 0
-WholeLines (register i v s) l = l ≡ []
-WholeLines (v-read i) l = (tbd : Bool) × (l ≡ 39 ∷ helped tbd (37 ∷ []))
-WholeLines (v-cas i old new) l = CasLines l
-WholeLines take-snapshot l = l ≡ 6 ∷ 5 ∷ []
-WholeLines (read-snapshot i h) l = Unit {0}
-WholeLines (total q h) l = Unit {0}
-
--- an operation that ended with number 11 or 12
-pub data RefusedLines (number : ℕ) (op : Operation) (l : List ℕ) : Type 0 where
-  no-node-left : (i old new : ℕ) (tbd : Bool) → number ≡ 11 → op ≡ v-cas i old new → l ≡ 45 ∷ 43 ∷ helped tbd (41 ∷ []) → RefusedLines number op l
-  counter-full : number ≡ 12 → op ≡ take-snapshot → l ≡ 5 ∷ [] → RefusedLines number op l
-
--- the most steps that an operation may take
-abbrev pub most-steps : Operation → ℕ
-most-steps (register i v s) = 0
-most-steps (v-read i) = 5
-most-steps (v-cas i old new) = 13
-most-steps take-snapshot = 2
-most-steps (read-snapshot i h) = 5121
-most-steps (total q h) = 5121
-
 module _ (run : List Note) where
   -- ---- events
 
@@ -96,11 +53,15 @@ module _ (run : List Note) where
     pub its : ledger past .current w ≡ o
     pub at : length past ≡ t
 
-  -- a node of item i was published at t, or stamped; operation o executed some line
+  -- operation o fetched the head of item i at t; a node of item i was published at t, or stamped; operation o executed some line
+  abbrev pub Fetched : (o i line t : ℕ) → Type 0
+  Fetched o i line t = (valid : Bool) × Executed o line (fetches i valid) t
   abbrev pub Published : (i t : ℕ) → Type 0
   Published i t = (c : ℕ) × (v : ℕ) × Executed c 46 (publishes i v) t
   abbrev pub Stamped : (i t : ℕ) → Type 0
   Stamped i t = (q : ℕ) × (v : ℕ) × Executed q 22 (stamps i v) t
+  abbrev pub Moved : (t : ℕ) → Type 0
+  Moved t = (q : ℕ) × (h : ℕ) × Executed q 6 (moves h) t
   abbrev pub Steps : (o t : ℕ) → Type 0
   Steps o t = (line : ℕ) × (d : Deed) × Executed o line d t
 
@@ -118,13 +79,17 @@ module _ (run : List Note) where
   abbrev pub ChangeInstant : (o i τ : ℕ) → Type 0
   ChangeInstant o i τ = (v : ℕ) × (p : ℕ) × (s : ℕ) × Executed o 46 (publishes i v) p × FirstStamp i p τ s
 
-  -- operation o lost to the change of item i that was published at p: the first since its line 41
-  abbrev pub LostTo : (o i p : ℕ) → Type 0
-  LostTo o i p = (valid : Bool) × (f : ℕ) × Executed o 41 (fetches i valid) f × Published i p × Next (Published i) f p
+  -- operation o lost to c, the vCAS that first changed the head of item i since its line 41
+  abbrev pub LostTo : (o i c : ℕ) → Type 0
+  LostTo o i c = (f : ℕ) × (v : ℕ) × (p : ℕ) × Fetched o i 41 f × Executed c 46 (publishes i v) p × Next (Published i) f p
 
-  -- at the instant of the vCAS that first changed the head since its line 41
+  -- at the instant of that vCAS
   abbrev pub LossInstant : (o i τ : ℕ) → Type 0
-  LossInstant o i τ = (p : ℕ) × (s : ℕ) × LostTo o i p × FirstStamp i p τ s
+  LossInstant o i τ = (c : ℕ) × LostTo o i c × ChangeInstant c i τ
+
+  -- when the counter left the number x that line 5 read: the first move since
+  abbrev pub TakeInstant : (o x τ : ℕ) → Type 0
+  TakeInstant o x τ = (f : ℕ) × (q : ℕ) × Executed o 5 nothing f × Executed q 6 (moves x) τ × Next Moved f τ
 
   -- the line with which an operation ended
   abbrev pub last-line : ℕ → ℕ
@@ -139,7 +104,7 @@ module _ (run : List Note) where
   Instant o x (register i v s) τ = τ ≡ o
   Instant o x (v-read i) τ = HeadInstant o i 37 τ
   Instant o x (v-cas i old new) τ = CasInstant o i (last-line o) τ
-  Instant o x take-snapshot τ = (q : ℕ) × Executed q 6 (moves x) τ
+  Instant o x take-snapshot τ = TakeInstant o x τ
   Instant o x (read-snapshot i h) τ = τ ≡ fate-of o .at
   Instant o x (total q h) τ = τ ≡ fate-of o .at
 
@@ -154,12 +119,11 @@ module _ (run : List Note) where
   Within o τ = ((o < τ) × ((x : ℕ) → Finished o x → τ ≤ fate-of o .at))
       ⊎ ((i : ℕ) × (v : ℕ) × (s : ℕ) × (fate-of o .operation ≡ register i v s) × (τ ≡ o) × (fate-of o .at ≡ o))
 
-  -- A vCAS that ended at 52 comes immediately after the vCAS c that first changed the head since its line 41: between them in the order are only
-  -- others that lost to that same change.
+  -- A vCAS that ended at 52 comes immediately after the vCAS c to which it lost: between them in the order are only others that lost to c.
   abbrev pub Immediately : (o i : ℕ) → List ℕ → Type 0
   Immediately o i order =
-      (c : ℕ) × (v : ℕ) × (p : ℕ) × LostTo o i p × Executed c 46 (publishes i v) p × (newer : List ℕ) × (between : List ℕ) × (older : List ℕ)
-        × (order ≡ newer ++ (o ∷ (between ++ (c ∷ older)))) × ((q : ℕ) → In q between → LostTo q i p)
+      (c : ℕ) × LostTo o i c × (newer : List ℕ) × (between : List ℕ) × (older : List ℕ) × (order ≡ newer ++ (o ∷ (between ++ (c ∷ older))))
+        × ((q : ℕ) → In q between → LostTo q i c)
 
   -- Demand 2. The order lists operations, the newest first; each has its time and its answer.
   pub record OneOrder : Type 0 where
@@ -179,6 +143,10 @@ module _ (run : List Note) where
     -- and each answer is right by Definition 1
     pub legal : Legal (map (λ o. record { operation = fate-of o .operation; answer = answer o }) order)
 
+  -- no operation of worker w goes on
+  abbrev pub Free : (w : ℕ) → Type 0
+  Free w = (o : ℕ) → fate-of o .ending ≡ goes-on → fate-of o .worker ≢ w
+
   -- ---- exact reads
 
   -- what an effect is the effect of
@@ -196,7 +164,7 @@ module _ (run : List Note) where
       pub born : i < object-at left effects .items
       pub answer : x ≡ object-at left effects .value i
       pub f : ℕ
-      pub fetched : (valid : Bool) × Executed o 32 (fetches i valid) f
+      pub fetched : Fetched o i 32 f
       pub k : ℕ
       pub counted : k ≡ changes-between i left f effects
       pub tbd : Bool
@@ -208,9 +176,9 @@ module _ (run : List Note) where
     -- for an item born after the counter left the handle, else those of a read.
     pub data TotalLines (left o : ℕ) : (items : ℕ) → List ℕ → (f : ℕ) → Type 0 where
       no-item : TotalLines left o 0 [] 0
-      born-later : {i g : ℕ} {l : List ℕ} (f t v s : ℕ) → Executed o 32 nothing f → g < f → In (birth t i v s) effects → left < t →
+      born-later : {i g : ℕ} {l : List ℕ} (f t v s : ℕ) → Fetched o i 32 f → g < f → In (birth t i v s) effects → left < t →
         TotalLines left o i l g → TotalLines left o (suc i) (32 ∷ l) f
-      read : {i g : ℕ} {l : List ℕ} (f : ℕ) (tbd : Bool) → Executed o 32 nothing f → g < f → i < object-at left effects .items →
+      read : {i g : ℕ} {l : List ℕ} (f : ℕ) (tbd : Bool) → Fetched o i 32 f → g < f → i < object-at left effects .items →
         TotalLines left o i l g → TotalLines left o (suc i) (read-lines tbd (changes-between i left f effects) ++ l) f
 
     -- A total's answer x is the sum over all items born when the counter left h whose project then was q; its steps are those of its items,
@@ -221,6 +189,18 @@ module _ (run : List Note) where
       pub answer : x ≡ total-of q (object-at left effects)
       pub lines : (l : List ℕ) × (last : ℕ) × TotalLines left o (object-at o effects .items) l last × (fate-of o .lines ≡ 0 ∷ l)
 
+    -- ---- starts
+
+    -- What a start asks for, where there are q projects: its item is registered, its values are projects, the counter has left its handle, and the
+    -- item of a readSnapshot was registered before that. A register is no start.
+    abbrev pub Asked : (q : ℕ) → Operation → Type 0
+    Asked q (register i v s) = ⊥
+    Asked q (v-read i) = i < object-at (length run) effects .items
+    Asked q (v-cas i old new) = (i < object-at (length run) effects .items) × (old < q) × (new < q)
+    Asked q take-snapshot = Unit {0}
+    Asked q (read-snapshot i h) = (left : ℕ) × In (snapshot left h) effects × (i < object-at left effects .items)
+    Asked q (total r h) = (r < q) × (left : ℕ) × In (snapshot left h) effects
+
     -- ---- all that is promised of the notes of a run
 
     pub record Promises : Type 0 where
@@ -230,8 +210,9 @@ module _ (run : List Note) where
       pub ordered : Falling time effects
       pub apart : Once (map time effects)
       pub exactly : (x : Effect) → In x effects ↔ TellsOf x
-      -- the counter leaves each handle once
+      -- the counter leaves each handle once, in their order
       pub leaves-once : (h t t' : ℕ) → In (snapshot t h) effects → In (snapshot t' h) effects → t ≡ t'
+      pub in-turn : (g h t : ℕ) → In (snapshot t h) effects → g < h → (u : ℕ) × In (snapshot u g) effects × (u < t)
       -- demand 3: reads are exact
       pub reads : (o i h x : ℕ) → fate-of o .operation ≡ read-snapshot i h → Finished o x → ExactRead o i h x
       -- so are totals, which never take more than 5,121 steps
@@ -242,5 +223,24 @@ module _ (run : List Note) where
       pub refused-lines : (o n : ℕ) → n ≢ 0 → fate-of o .ending ≡ ends-with n → RefusedLines n (fate-of o .operation) (fate-of o .lines)
       -- what line 20 found decides its help, in these and in all others: line 21 comes next exactly where it found TBD
       pub helps : (o : ℕ) → fate-of o .ending ≢ goes-on → fate-of o .found ≡ found-by 0 (fate-of o .lines)
-      -- an operation that goes on has not taken the most steps that it may take: one that is stepped so often has ended
-      pub progress : (o : ℕ) → fate-of o .ending ≡ goes-on → length (fate-of o .lines) < most-steps (fate-of o .operation)
+      -- an operation that goes on is its worker's latest, and has not taken the most steps that it may take: one that is stepped so often has ended
+      pub progress : (o : ℕ) → fate-of o .ending ≡ goes-on →
+        (ledger run .current (fate-of o .worker) ≡ o) × (length (fate-of o .lines) < most-steps (fate-of o .operation))
+
+-- ---- and of its words now, where told are its notes and the catalogue was made with p workers and q projects
+
+pub record Demands (p q : ℕ) (now : List ℕ) (told : List Note) : Type 0 where
+  -- no call answers 2, and the words are well-formed
+  pub never-2 : (x : Call) → Run-call now x → outcome now x .answer .code ≢ damaged-code
+  pub formed : Well-formed now
+  -- demands 2 and 3
+  pub effects : List Effect
+  pub promises : Promises told effects
+  -- a start is accepted exactly when its worker is there and free, and what it asks for is there
+  pub accepted : (w : ℕ) (op : Operation) → (note now (start-of w op) ≡ started w op) ↔ ((w < p) × Free told w × Asked told effects q op)
+  -- an operation that goes on is never refused a step
+  pub never-stuck : (o : ℕ) → fate-of told o .ending ≡ goes-on →
+    (line : ℕ) × (d : Deed) × (e : Ending) × (note now (Call.step (fate-of told o .worker)) ≡ stepped (fate-of told o .worker) line d e)
+  -- the answer of a step carries the number of lines that its operation has executed, that line included
+  pub every-step : (w line : ℕ) (d : Deed) (e : Ending) → note now (Call.step w) ≡ stepped w line d e →
+    outcome now (Call.step w) .answer .steps ≡ length (line ∷ fate-of told (ledger told .current w) .lines)

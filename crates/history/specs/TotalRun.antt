@@ -11,7 +11,8 @@ use Rattle.definitions.specs.Calls.{Call}
 use Rattle.history.specs.Tools.{put-all, by-eq, by-lt, by-le}
 use Rattle.history.specs.Notes.{Note, ledger}
 use Rattle.history.specs.Notes as Notes
-use Rattle.history.specs.Statements.{helped, Executed}
+use Rattle.history.specs.Notes.{helped}
+use Rattle.history.specs.Statements.{Fetched}
 use Rattle.history.specs.Machine.{Entry, ended, turned-away, Memory, Limits, found, node-to-take, Found, no-node, node, on-45, Operation,
     register, v-read, v-cas, take-snapshot, read-snapshot, total, Then, then-39, then-43, then-48, then-52, then-34, then-total-34, Phase, line-37,
     line-39, line-41, line-43, line-45, line-46, line-48, line-50, line-51, line-52, line-5, line-6, line-32, line-34, total-32, total-34, closing,
@@ -42,8 +43,8 @@ ComesTotal m run o e l op (answers x τ j) = EndTotal m run o e l op
 
 trace-past : {m : Memory} {run : List Note} {h o e i g : ℕ} {l : List ℕ} → 0 < length run → TotalTrace m run h o e i l g → g < length run
 trace-past p none = p
-trace-past p (skips f x a b c z) = executed-past x
-trace-past p (reads f x a j r w s z) = executed-past x
+trace-past p (skips f x a b c z) = executed-past (x .1)
+trace-past p (reads f x a j r w s z) = executed-past (x .1)
 
 module _ (t o w : ℕ) (l : List ℕ) (m : Memory) (known : MemoryFacts t m) (ot : o < t) (run : List Note) (now : length run ≡ t)
     (cur : ledger run .current w ≡ o) where
@@ -57,8 +58,8 @@ module _ (t o w : ℕ) (l : List ℕ) (m : Memory) (known : MemoryFacts t m) (ot
   unfolding memory-after
   stay = effect-later known o take-snapshot false Machine.nothing tt
 
-  at-32 : (e : Notes.Ending) → Executed (Notes.stepped w 32 Notes.nothing e ∷ run) o 32 Notes.nothing t
-  at-32 e = record { past = run; w = w; e = e; noted = inl (refl, refl); its = cur; at = now }
+  at-32 : (i : ℕ) (valid : Bool) (e : Notes.Ending) → Fetched (Notes.stepped w 32 (Notes.fetches i valid) e ∷ run) o i 32 t
+  at-32 i valid e = (valid, record { past = run; w = w; e = e; noted = inl (refl, refl); its = cur; at = now })
 
   -- the total is at its next item, or at its closing step
   next-total : (y : Note) (r : List ℕ) (q h k i u g : ℕ) → TotalTrace m (y ∷ run) h o (suc t) i r g →
@@ -106,9 +107,9 @@ module _ (t o w : ℕ) (l : List ℕ) (m : Memory) (known : MemoryFacts t m) (ot
   line-total (total-32 q h k i u) x z =
       by-lt (λ (ph : Phase). NextTotal (total-32 q h k i u) (only (goes-on ph))) h (m .item i .stamp 0)
         (λ e. next-total _ (32 ∷ l) q h k (suc i) u t
-          (skips {i = i} t (at-32 Notes.goes-on) past (x .1 .have i (x .0)) e (trace-later stay known run _ ot (omega arith) (omega arith) (z .1))))
+          (skips {i = i} t (at-32 i _ Notes.goes-on) past (x .1 .have i (x .0)) e (trace-later stay known run _ ot (omega arith) (omega arith) (z .1))))
         (λ e. record { done = l; is = refl; inside = record { g = z .0; trace = trace-later stay known run _ ot (omega arith) (omega arith) (z .1);
-            event = at-32 Notes.goes-on; later = past } })
+            event = at-32 i _ Notes.goes-on; later = past } })
     where
       past : z .0 < t
       past = omega (arith, trace-past (omega arith) (z .1))
@@ -123,7 +124,7 @@ module _ (t o w : ℕ) (l : List ℕ) (m : Memory) (known : MemoryFacts t m) (ot
               (noted (total-34 q h k i u f j y)
               (only (goes-on (total-at q h k (suc i) (u + cond (eqb (m .item i .value y) q) (m .item i .size) 0)))) ∷ run) h o (suc t) (suc i) r f)
               (sym lines)
-            (reads {i = i} f (executed-more _ (z .inside .event)) (z .inside .later) y (34 ∷ z .here)
+            (reads {i = i} f (z .inside .event .0, executed-more _ (z .inside .event .1)) (z .inside .later) y (34 ∷ z .here)
                 (the-read t o l m known ot i h f j y (z .here) (z .passing) (x .way) e) (same e)
               (trace-later stay known run _ ot (omega arith) (omega arith) (z .inside .trace)))))
     where

@@ -6,7 +6,7 @@ use native.Mathlib.Omega.{arith}
 use Rattle.history.specs.Tools.{Split, split}
 use Rattle.history.specs.Notes.{Note}
 use Rattle.history.specs.Notes as Notes
-use Rattle.history.specs.Statements.{Executed}
+use Rattle.history.specs.Statements.{Fetched}
 use Rattle.history.specs.Machine.{Memory, Operation, register, v-read, v-cas, take-snapshot, read-snapshot, total, Then, then-39, then-43,
     then-48, then-52, then-34, then-total-34, Phase, line-37, line-39, line-41, line-43, line-45, line-46, line-48, line-50, line-51, line-52,
     line-5, line-6, line-32, line-34, total-32, total-34, closing, line-20, line-21, line-22}
@@ -18,16 +18,16 @@ use Rattle.history.specs.Trace.{executed-more}
 -- a total that began at o has been through the items below i; the line 32 of the last was executed at g
 pub data TotalTrace (m : Memory) (run : List Note) (h o e : ℕ) : ℕ → List ℕ → ℕ → Type 0 where
   none : TotalTrace m run h o e 0 [] 0
-  skips : {i g : ℕ} {l : List ℕ} (f : ℕ) → Executed run o 32 Notes.nothing f → g < f → 0 < m .item i .valid → h < m .item i .stamp 0 →
+  skips : {i g : ℕ} {l : List ℕ} (f : ℕ) → Fetched run o i 32 f → g < f → 0 < m .item i .valid → h < m .item i .stamp 0 →
     TotalTrace m run h o e i l g → TotalTrace m run h o e (suc i) (32 ∷ l) f
-  reads : {i g : ℕ} {l : List ℕ} (f : ℕ) → Executed run o 32 Notes.nothing f → g < f → (j : ℕ) (r : List ℕ) (x : Read m i h o e j r) → x .f ≡ f →
+  reads : {i g : ℕ} {l : List ℕ} (f : ℕ) → Fetched run o i 32 f → g < f → (j : ℕ) (r : List ℕ) (x : Read m i h o e j r) → x .f ≡ f →
     TotalTrace m run h o e i l g → TotalTrace m run h o e (suc i) (r ++ l) f
 
 -- inside an item: its line 32 was executed at f
 pub record InItem (m : Memory) (run : List Note) (h o e i f : ℕ) (done : List ℕ) : Type 0 where
   pub g : ℕ
   pub trace : TotalTrace m run h o e i done g
-  pub event : Executed run o 32 Notes.nothing f
+  pub event : Fetched run o i 32 f
   pub later : g < f
 
 pub record TotalHelp (m : Memory) (run : List Note) (h o e i f : ℕ) (l : List ℕ) : Type 0 where
@@ -98,12 +98,12 @@ module _ {t : ℕ} {m m' : Memory} (L : Later t m m') (known : MemoryFacts t m) 
   unfolding read-later
   trace-later a b c none = none
   trace-later a b c (skips {i} {g} {l} f x p q s z) =
-      skips {i = i} f (executed-more y x) p (omega (arith, L .item i .more-valid)) (omega (arith, L .item i .stamp 0 q)) (trace-later a b c z)
+      skips {i = i} f (x .0, executed-more y (x .1)) p (omega (arith, L .item i .more-valid)) (omega (arith, L .item i .stamp 0 q)) (trace-later a b c z)
   trace-later a b c (reads {i} {g} {l} f x p j r w s z) =
-      reads {i = i} f (executed-more y x) p j r (read-later L (λ i. known .item i .valid-published) a b c w) s (trace-later a b c z)
+      reads {i = i} f (x .0, executed-more y (x .1)) p j r (read-later L (λ i. known .item i .valid-published) a b c w) s (trace-later a b c z)
 
   pub item-later : {h o e e' i f : ℕ} {l : List ℕ} → o < t → e ≤ t → e ≤ e' → InItem m run h o e i f l → InItem m' (y ∷ run) h o e' i f l
-  item-later a b c x = record { g = x .g; trace = trace-later a b c (x .trace); event = executed-more y (x .event); later = x .later }
+  item-later a b c x = record { g = x .g; trace = trace-later a b c (x .trace); event = (x .event .0, executed-more y (x .event .1)); later = x .later }
 
   pub then-total-later : (o e e' : ℕ) (l : List ℕ) (c : Then) → o < t → e ≤ t → e ≤ e' → ThenTotal m run o e l c → ThenTotal m' (y ∷ run) o e' l c
   then-total-later o e e' l (then-39 i f) a b c x = tt

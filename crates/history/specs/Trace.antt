@@ -14,8 +14,8 @@ use Rattle.history.specs.Statements.{Executed}
 use Rattle.history.specs.Machine.{Item, Memory, Operation, register, v-read, v-cas, take-snapshot, read-snapshot, total, Then, then-39,
     then-43, then-48, then-52, then-34, then-total-34, Phase, line-37, line-39, line-41, line-43, line-45, line-46, line-48, line-50, line-51,
     line-52, line-5, line-6, line-32, line-34, total-32, total-34, closing, line-20, line-21, line-22, Place, observes, Worker, idle, busy, Catalogue}
-use Rattle.history.specs.Facts.{Fetched, Read, MemoryFacts, Later}
-use Rattle.history.specs.Later.{fetched-later, read-later}
+use Rattle.history.specs.Facts.{CounterWas, Fetched, Read, MemoryFacts, Later}
+use Rattle.history.specs.Later.{counter-later, fetched-later, read-later}
 
 -- ---- more notes keep an event
 
@@ -75,7 +75,7 @@ PhaseTraced m run o (line-50 i a b g y) = LostAt (m .item i) run o i g
 PhaseTraced m run o (line-51 i a b g) = LostAt (m .item i) run o i g
 PhaseTraced m run o (line-52 i a b g j) = LostAt (m .item i) run o i g
 PhaseTraced m run o line-5 = Unit {0}
-PhaseTraced m run o (line-6 c r) = Unit {0}
+PhaseTraced m run o (line-6 c r) = Executed run o 5 Notes.nothing r
 PhaseTraced m run o (line-32 i h) = Unit {0}
 PhaseTraced m run o (line-34 i h f j x) = FetchedBy (m .item i) run o 32 i j f
 PhaseTraced m run o (total-32 q h k i u) = Unit {0}
@@ -111,6 +111,16 @@ pub data CasTraced (m : Memory) (run : List Note) (o i : ℕ) (l : List ℕ) (p 
   ends-48 : getD l 0 0 ≡ 48 → (j : ℕ) → suc j < m .item i .valid → m .item i .author (suc j) ≡ o → CasTraced m run o i l p
   ends-52 : getD l 0 0 ≡ 52 → LossTraced m run o i p → CasTraced m run o i l p
 
+-- a takeSnapshot read the counter x at r
+pub record TakeTraced (m : Memory) (run : List Note) (o : ℕ) (p : Place) : Type 0 where
+  pub τ : ℕ
+  pub j : ℕ
+  pub x : ℕ
+  pub r : ℕ
+  pub is : p ≡ observes τ j x
+  pub read : Executed run o 5 Notes.nothing r
+  pub was : CounterWas (m .camera) r x
+
 pub record ReadTraced (m : Memory) (run : List Note) (o i h : ℕ) (l : List ℕ) (p : Place) : Type 0 where
   pub τ : ℕ
   pub j : ℕ
@@ -124,7 +134,7 @@ abbrev pub EndTraced : Memory → List Note → ℕ → Operation → List ℕ �
 EndTraced m run o (register i v z) l p = Unit {0}
 EndTraced m run o (v-read i) l p = HeadTraced m run o 37 i p
 EndTraced m run o (v-cas i a b) l p = CasTraced m run o i l p
-EndTraced m run o take-snapshot l p = Unit {0}
+EndTraced m run o take-snapshot l p = TakeTraced m run o p
 EndTraced m run o (read-snapshot i h) l p = ReadTraced m run o i h l p
 EndTraced m run o (total q h) l p = Unit {0}
 
@@ -202,7 +212,7 @@ module _ {t : ℕ} {m m' : Memory} (L : Later t m m') (known : MemoryFacts t m) 
     phase-traced-later o (line-51 i a b g) z e = lost-later o i g e
     phase-traced-later o (line-52 i a b g j) z e = lost-later o i g e
     phase-traced-later o line-5 z e = tt
-    phase-traced-later o (line-6 c r) z e = tt
+    phase-traced-later o (line-6 c r) z e = executed-more x e
     phase-traced-later o (line-32 i h) z e = tt
     phase-traced-later o (line-34 i h f j y) z e = fetch-later o 32 i j f e
     phase-traced-later o (total-32 q h k i u) z e = tt
@@ -234,7 +244,9 @@ module _ {t : ℕ} {m m' : Memory} (L : Later t m m') (known : MemoryFacts t m) 
     end-later o (register i v z) l p a b e = tt
     end-later o (v-read i) l p a b e = head-traced-later o 37 i p e
     end-later o (v-cas i u v) l p a b e = cas-traced-later o i l p e
-    end-later o take-snapshot l p a b e = tt
+    end-later o take-snapshot l p a b e =
+        record { τ = e .τ; j = e .j; x = e .x; r = e .r; is = e .is; read = executed-more x (e .read);
+          was = counter-later (L .camera) (omega (arith, executed-past (e .read), now)) (e .was) }
     end-later o (read-snapshot i h) l p a b e =
         record { τ = e .τ; j = e .j; x = e .x; is = e .is;
           read = read-later L (λ i. known .item i .valid-published) a (b (e .τ) (e .j) (e .x) (e .is)) (omega arith) (e .read);

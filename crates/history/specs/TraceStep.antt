@@ -13,15 +13,16 @@ use Rattle.history.specs.Notes as Notes
 use Rattle.history.specs.Statements.{Executed}
 use Rattle.history.specs.Machine.{Memory, Operation, take-snapshot, Then, then-39, then-43, then-48, then-52, then-34, then-total-34, Phase,
     line-37, line-39, line-41, line-43, line-45, line-46, line-48, line-50, line-51, line-52, line-5, line-6, line-32, line-34, total-32, total-34,
-    closing, line-20, line-21, line-22, after, total-at, helped-item, line-number, Found, no-node, node, node-to-take, on-45, Effect, nothing,
+    closing, line-20, line-21, line-22, after, total-at, helped-item, line-number, Found, no-node, node, node-to-take, on-45, Effect, nothing, counts,
     stamps, Comes, goes-on, ends-with, answers-change, answers, Next, only, line, memory-after, Place, observes}
 use Rattle.history.specs.Facts.{MemoryFacts, Later}
+use Rattle.history.specs.Later.{counter-later}
 use Rattle.history.specs.Changes.{Allowed, effect-later}
 use Rattle.history.specs.PhaseFacts.{PhaseFacts}
 use Rattle.history.specs.RightAnswers.{then-operation, phase-operation, has-published, LineRight}
 use Rattle.history.specs.EachLine.{every-line, the-read}
 use Rattle.history.specs.MachineNotes.{phase-deed, fetch, ending}
-use Rattle.history.specs.Trace.{FetchedBy, ThenTraced, PhaseTraced, ends-43, ends-48, ends-52, EndTraced, executed-past, fetch-later,
+use Rattle.history.specs.Trace.{FetchedBy, ThenTraced, PhaseTraced, ends-43, ends-48, ends-52, EndTraced, executed-more, executed-past, fetch-later,
     lost-later, then-traced-later}
 
 abbrev pub ComesTraced : Memory → List Note → ℕ → Operation → List ℕ → Comes → Type 0
@@ -103,8 +104,12 @@ module _ (t o w : ℕ) (l : List ℕ) (m : Memory) (known : MemoryFacts t m) (ot
   line-traced (line-52 i a b g j) x z =
       ends-52 refl (record { τ = _; g = g; x = _; is = refl; lost = lost-later stay known run _ now o i g z;
           good = omega (arith, x .good, x .keeps .1 .newer); at = refl })
-  line-traced line-5 x z = by-le (NextTraced line-5) (m .limits .counter) (m .camera .counter) (λ e. tt) (λ e. tt)
-  line-traced (line-6 c r) x z = by-eq (NextTraced (line-6 c r)) (m .camera .counter) c (λ e. tt) (λ e. tt)
+  line-traced line-5 x z = by-le (NextTraced line-5) (m .limits .counter) (m .camera .counter) (λ e. tt) (λ e. here 5 Notes.nothing Notes.goes-on)
+  line-traced (line-6 c r) x z =
+      by-eq (NextTraced (line-6 c r)) (m .camera .counter) c
+        (λ e. record { τ = _; j = _; x = c; r = r; is = refl; read = executed-more _ z;
+            was = counter-later (effect-later known o take-snapshot false counts tt .camera) (x .2 .till) (x .2 .was) })
+        (λ e. record { τ = _; j = _; x = c; r = r; is = refl; read = executed-more _ z; was = x .2 .was })
   line-traced (line-34 i h f j y) x z =
       by-lt (NextTraced (line-34 i h f j y)) h (m .item i .stamp y)
         (λ p. fetch-later stay known run _ now o 32 i j f z)

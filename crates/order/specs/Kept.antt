@@ -1,7 +1,8 @@
 -- The promises kept by the machine of versions are kept by the words: their notes and answers are the same.
-use mathlib.Core.Path.{_≡_, ap, sym, _∙_, subst, subst-refl, pathJ}
+use mathlib.Core.Path.{_≡_, refl, ap, sym, _∙_, subst, subst-refl, pathJ}
 use mathlib.Core.List.{List, [], _∷_}
 use Prim.Native.Nat.{ℕ}
+use native.Mathlib.Omega.{arith}
 use lib.ListN.{length}
 use Rattle.definitions.specs.declared.Answer.{Answer}
 use Rattle.definitions.specs.Calls.{Call, outcome}
@@ -16,7 +17,7 @@ use Rattle.history.specs.Promised.{promised}
 use Rattle.history.specs.StepsTold.{steps-told}
 use Rattle.history.specs.InWork.{always-steps}
 use Rattle.reached.specs.Whole.{Limits-fit}
-use Rattle.reached.specs.Run.{limits-of, reached-image, answers-agree}
+use Rattle.reached.specs.Run.{sized-call, limits-of, reached-image, answers-agree}
 use Rattle.reached.specs.Noted.{notes-agree}
 
 -- the promises of equal notes have one order
@@ -53,14 +54,21 @@ module _ (ws : List ℕ) (p m n q c : ℕ) (made : outcome ws (Call.make p m n q
   first [] = refused
   first (x ∷ l) = x
 
-  step-same : (w : ℕ) → Run-call now (Call.step w) → note now (Call.step w) ≡ machine-note (after-calls (limits-of p m n q c) cs) (Call.step w)
-  unfolding notes machine-notes first
-  step-same w t = ap first (notes-agree ws p m n q c made (Call.step w ∷ cs) (run, t))
+  a-step : (w : ℕ) → Run-call now (Call.step w)
+  a-step w = sized-call now (Call.step w) (omega arith) refl
 
-  pub step-taken : (o : ℕ) → fate-of told o .ending ≡ goes-on → Run-call now (Call.step (fate-of told o .worker)) →
+  -- the note of one more call
+  pub same-note : (x : Call) → Run-call now x → note now x ≡ machine-note (after-calls (limits-of p m n q c) cs) x
+  unfolding notes machine-notes first
+  same-note x t = ap first (notes-agree ws p m n q c made (x ∷ cs) (run, t))
+
+  step-same : (w : ℕ) → note now (Call.step w) ≡ machine-note (after-calls (limits-of p m n q c) cs) (Call.step w)
+  step-same w = same-note (Call.step w) (a-step w)
+
+  pub step-taken : (o : ℕ) → fate-of told o .ending ≡ goes-on →
     (line : ℕ) × (d : Deed) × (e : Ending) × (note now (Call.step (fate-of told o .worker)) ≡ stepped (fate-of told o .worker) line d e)
-  step-taken o b t =
-      (x .0, x .1, x .2, step-same (fate-of told o .worker) t
+  step-taken o b =
+      (x .0, x .1, x .2, step-same (fate-of told o .worker)
         ∙ subst (λ (w : ℕ). machine-note (after-calls (limits-of p m n q c) cs) (Call.step w) ≡ stepped w (x .0) (x .1) (x .2)) (sym same-worker)
           (x .3))
     where
@@ -71,9 +79,9 @@ module _ (ws : List ℕ) (p m n q c : ℕ) (made : outcome ws (Call.make p m n q
             (fate-of (machine-notes (limits-of p m n q c) cs) o .worker) line d e)
       x = always-steps (limits-of p m n q c) cs o (sym (ap (λ (l : List Note). fate-of l o .ending) same-notes) ∙ b)
 
-  pub steps-answered : (w line : ℕ) (d : Deed) (e : Ending) → Run-call now (Call.step w) → note now (Call.step w) ≡ stepped w line d e →
+  pub steps-answered : (w line : ℕ) (d : Deed) (e : Ending) → note now (Call.step w) ≡ stepped w line d e →
     outcome now (Call.step w) .answer .steps ≡ length (line ∷ fate-of told (ledger told .current w) .lines)
-  steps-answered w line d e t x =
-      ap (λ (a : Answer). a .steps) (answers-agree ws p m n q c made cs run (Call.step w) t)
-        ∙ steps-told (limits-of p m n q c) cs w line d e (sym (step-same w t) ∙ x)
+  steps-answered w line d e x =
+      ap (λ (a : Answer). a .steps) (answers-agree ws p m n q c made cs run (Call.step w) (a-step w))
+        ∙ steps-told (limits-of p m n q c) cs w line d e (sym (step-same w) ∙ x)
         ∙ ap (λ (l : List Note). length (line ∷ fate-of l (ledger l .current w) .lines)) (sym same-notes)

@@ -1,4 +1,9 @@
 pub mod Kept
+pub mod Accepted
 pub mod Theorems
 pub mod LastMake
-pub mod WordsExample
+pub mod WorkedRuns
+pub mod WorkedTimes
+pub mod HelpedRun
+pub mod LostRun
+pub mod SharedRun

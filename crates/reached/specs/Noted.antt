@@ -85,7 +85,7 @@ module _ (f : Cells) (m : Memory) (own : ℕ → Owner) (w : ℕ) (X : Standing 
   moves-same c r k = ap₂ (λ (b : Bool) (d : Deed). cond b d Notes.nothing) (ap₂ eqb (X .shared .counter-is) k) (ap moves (X .shared .counter-is))
 
   -- a help's line 20 tells what it found, and line 21 is no deed
-  deed-20 : (c : Then) → deed-at (row-of (help-number c)) f w ≡ finds (not (eqb (f (stamp (f (node w)))) TBD))
+  deed-20 : (c : Then) → deed-at (row-of (help-number c) .line) f w ≡ finds (not (eqb (f (stamp (f (node w)))) TBD))
   unfolding row-of table
   deed-20 (then-39 i g) = refl
   deed-20 (then-43 i x y g) = refl
@@ -94,7 +94,7 @@ module _ (f : Cells) (m : Memory) (own : ℕ → Owner) (w : ℕ) (X : Standing 
   deed-20 (then-34 i h g) = refl
   deed-20 (then-total-34 q h n i u g) = refl
 
-  quiet-21 : (c : Then) → deed-at (row-of (help-number c + 1)) f w ≡ Notes.nothing
+  quiet-21 : (c : Then) → deed-at (row-of (help-number c + 1) .line) f w ≡ Notes.nothing
   unfolding row-of table
   quiet-21 (then-39 i g) = refl
   quiet-21 (then-43 i x y g) = refl
@@ -103,7 +103,7 @@ module _ (f : Cells) (m : Memory) (own : ℕ → Owner) (w : ℕ) (X : Standing 
   quiet-21 (then-34 i h g) = refl
   quiet-21 (then-total-34 q h n i u g) = refl
 
-  deed-22 : (c : Then) → deed-at (row-of (help-number c + 2)) f w ≡ cond (eqb (f (stamp (f (node w)))) TBD)
+  deed-22 : (c : Then) → deed-at (row-of (help-number c + 2) .line) f w ≡ cond (eqb (f (stamp (f (node w)))) TBD)
       (Notes.stamps (f (item w)) (f (value (f (node w))))) Notes.nothing
   unfolding row-of table
   deed-22 (then-39 i g) = refl
@@ -122,7 +122,7 @@ module _ (f : Cells) (m : Memory) (own : ℕ → Owner) (w : ℕ) (X : Standing 
   kept-item (then-total-34 q h n i u g) k = k .item-is
 
   deed-same : (ph : Phase) → Kept (m .item) (local-of f w) ph → Known m ph → Holds own (shared-of f) (m .item) w ph
-      → deed-at (row-of (phase-number ph)) f w ≡ phase-deed m ph
+      → deed-at (row-of (phase-number ph) .line) f w ≡ phase-deed m ph
   unfolding row-of table
   deed-same (line-37 i) k z h = fetch-same i z k
   deed-same (line-39 i g j) k z h = refl
@@ -132,13 +132,13 @@ module _ (f : Cells) (m : Memory) (own : ℕ → Owner) (w : ℕ) (X : Standing 
   deed-same (line-46 i x y g j v) k z h = publishes-same i x y g j v k z h
   deed-same (line-48 i x y j) k z h = refl
   deed-same (line-50 i x y g v) k z h = refl
-  deed-same (line-51 i x y g) k z h = fetch-same i (z .item-in) (k .item-is)
+  deed-same (line-51 i x y g) k z h = refl
   deed-same (line-52 i x y g j) k z h = refl
   deed-same line-5 k z h = refl
   deed-same (line-6 c r) k z h = moves-same c r k
   deed-same (line-32 i a) k z h = fetch-same i (z .item-in) (k .item-is)
   deed-same (line-34 i a g j x) k z h = refl
-  deed-same (total-32 q a n i u) k z h = refl
+  deed-same (total-32 q a n i u) k z h = fetch-same i (omega (arith, z .1, z .0 .noted-in)) (k .item-is)
   deed-same (total-34 q a n i u g j x) k z h = refl
   deed-same (closing q a n u) k z h = refl
   deed-same (line-20 c j) k z h = deed-20 c ∙ finds-same c j k z
@@ -158,12 +158,12 @@ step-refused w line line' d d' (suc (suc (suc (suc (suc (suc n)))))) a b = absur
 
 -- What the words show of a step is what the machine's worker does.
 step-same : (f : Cells) (s : Catalogue) (Z : Catalogue-image f s) → Few-steps (s .worker) → (w : ℕ)
-    → step-note w (row-of (f (phase w)) .line) (deed-at (row-of (f (phase w))) f w) (reply s (Call.step w)) ≡ step-note w (worker-line (s .worker w))
+    → step-note w (row-of (f (phase w)) .line) (deed-at (row-of (f (phase w)) .line) f w) (reply s (Call.step w)) ≡ step-note w (worker-line (s .worker w))
         (worker-deed (s .memory) (s .worker w)) (reply s (Call.step w))
 step-same f s Z F w = at (split w (s .memory .limits .workers)) (s .worker w) refl
   where
     Goal : Worker → Answer → Type 0
-    Goal v a = step-note w (row-of (f (phase w)) .line) (deed-at (row-of (f (phase w))) f w) a ≡ step-note w (worker-line v) (worker-deed (s .memory) v) a
+    Goal v a = step-note w (row-of (f (phase w)) .line) (deed-at (row-of (f (phase w)) .line) f w) a ≡ step-note w (worker-line v) (worker-deed (s .memory) v) a
     moved-3 : s .memory .limits .workers ≤ w → move s (Call.step w) ≡ refused s 3
     moved-3 l = unfold move stepping in rw (le-leb (s .memory .limits .workers) w l)
     moved-5 : w < s .memory .limits .workers → s .worker w ≡ idle → move s (Call.step w) ≡ refused s 5
@@ -173,14 +173,14 @@ step-same f s Z F w = at (split w (s .memory .limits .workers)) (s .worker w) re
     refuses-5 : w < s .memory .limits .workers → s .worker w ≡ idle → reply s (Call.step w) ≡ refusal 5 0
     refuses-5 l e = unfold reply in ap (λ (y : Move). y .answer) (moved-5 l e)
     refused-note : (v : Worker) (number : ℕ) → 3 ≤ number → number ≤ 5 → Goal v (refusal number 0)
-    refused-note v number a b = step-refused w (row-of (f (phase w)) .line) (worker-line v) (deed-at (row-of (f (phase w))) f w)
+    refused-note v number a b = step-refused w (row-of (f (phase w)) .line) (worker-line v) (deed-at (row-of (f (phase w)) .line) f w)
         (worker-deed (s .memory) v) number a b
     at : Split w (s .memory .limits .workers) → (v : Worker) → s .worker w ≡ v → Goal (s .worker w) (reply s (Call.step w))
     at (Split.more l) v e = subst (λ (a : Answer). Goal (s .worker w) a) (sym (refuses-3 l)) (refused-note (s .worker w) 3 (omega arith) (omega arith))
     at (Split.less l) idle e = subst (λ (a : Answer). Goal (s .worker w) a) (sym (refuses-5 l e)) (refused-note (s .worker w) 5 (omega arith) (omega arith))
     at (Split.less l) (busy o ls ph) e =
         subst (λ (v : Worker). Goal v (reply s (Call.step w))) (sym e)
-        (subst (λ (p : ℕ). step-note w (row-of p .line) (deed-at (row-of p) f w) (reply s (Call.step w)) ≡ step-note w (line-number ph)
+        (subst (λ (p : ℕ). step-note w (row-of p .line) (deed-at (row-of p .line) f w) (reply s (Call.step w)) ≡ step-note w (line-number ph)
             (phase-deed (s .memory) ph) (reply s (Call.step w))) (sym (B .phase-is))
         (ap₂ (λ (x : ℕ) (d : Deed). step-note w x d (reply s (Call.step w))) (line-same ph)
           (deed-same f (s .memory) (Z .own) w (standing f s Z w l o ls ph e (F w o ls ph e)) ph (B .kept) (knows f s Z w l o ls ph e (F w o ls ph e))

@@ -14,7 +14,7 @@ use Rattle.history.specs.Notes.{words-after}
 use Rattle.history.specs.Machine.{Limits, after-calls}
 use Rattle.history.specs.StepCount.{steps-bound}
 use Rattle.reached.specs.Whole.{Limits-fit, Few-steps}
-use Rattle.reached.specs.Run.{Typed, Run-call, no-make-call, Words-image, Called, every-call, reached-image, limits-of, in-limits}
+use Rattle.reached.specs.Run.{Typed, Run-call, Run, start, no-make-call, Words-image, Called, every-call, reached-image, limits-of, in-limits}
 use Rattle.reached.specs.Never.{damaged-code, reply-fine}
 use Rattle.reached.specs.Formed.{image-well-formed}
 
@@ -48,14 +48,14 @@ run-or-made ws (Call.make p m n q c) P t f g = at (eqb (outcome ws (Call.make p 
   where
     at : (b : Bool) → eqb (outcome ws (Call.make p m n q c) .answer .code) 2 ≡ b → P (Call.make p m n q c)
     at true e = f p m n q c (eqb-true _ _ e)
-    at false e = g (record { typed = tt; no-make = λ p' m' n' q' c' d. eqb-false _ _ e })
+    at false e = g (record { typed = t; no-make = λ p' m' n' q' c' d. eqb-false _ _ e })
 run-or-made ws (Call.register v z) P t f g = g (no-make-call ws (Call.register v z) t refl)
-run-or-made ws (Call.v-read w i) P t f g = g (no-make-call ws (Call.v-read w i) tt refl)
-run-or-made ws (Call.v-cas w i x y) P t f g = g (no-make-call ws (Call.v-cas w i x y) tt refl)
-run-or-made ws (Call.take-snapshot w) P t f g = g (no-make-call ws (Call.take-snapshot w) tt refl)
-run-or-made ws (Call.read-snapshot w i h) P t f g = g (no-make-call ws (Call.read-snapshot w i h) tt refl)
-run-or-made ws (Call.total w q h) P t f g = g (no-make-call ws (Call.total w q h) tt refl)
-run-or-made ws (Call.step w) P t f g = g (no-make-call ws (Call.step w) tt refl)
+run-or-made ws (Call.v-read w i) P t f g = g (no-make-call ws (Call.v-read w i) t refl)
+run-or-made ws (Call.v-cas w i x y) P t f g = g (no-make-call ws (Call.v-cas w i x y) t refl)
+run-or-made ws (Call.take-snapshot w) P t f g = g (no-make-call ws (Call.take-snapshot w) t refl)
+run-or-made ws (Call.read-snapshot w i h) P t f g = g (no-make-call ws (Call.read-snapshot w i h) t refl)
+run-or-made ws (Call.total w q h) P t f g = g (no-make-call ws (Call.total w q h) t refl)
+run-or-made ws (Call.step w) P t f g = g (no-make-call ws (Call.step w) t refl)
 
 pub reached-imaged : (ws : List ℕ) → Reached ws → Imaged ws
 reached-imaged ws (made old p m n q c e) = made-imaged old p m n q c e
@@ -71,6 +71,17 @@ reached-formed ws r = image-well-formed ws (after-calls (h .limits) (h .calls)) 
   where
     h : Imaged ws
     h = reached-imaged ws r
+
+-- so are the words of a run,
+run-reached : (ws : List ℕ) (p m n q c : ℕ) → outcome ws (Call.make p m n q c) .answer .code ≡ 2 → (cs : List Call) → Run (start ws p m n q c) cs →
+    Reached (words-after (start ws p m n q c) cs)
+unfolding words-after
+run-reached ws p m n q c e [] t = made ws p m n q c e
+run-reached ws p m n q c e (x ∷ cs) t = called (words-after (start ws p m n q c) cs) x (t .1 .typed) (run-reached ws p m n q c e cs (t .0))
+
+pub run-formed : (ws : List ℕ) (p m n q c : ℕ) → outcome ws (Call.make p m n q c) .answer .code ≡ 2 → (cs : List Call) → Run (start ws p m n q c) cs →
+    Well-formed (words-after (start ws p m n q c) cs)
+run-formed ws p m n q c e cs t = reached-formed (words-after (start ws p m n q c) cs) (run-reached ws p m n q c e cs t)
 
 -- and no call on it answers 2.
 pub reached-sound : (ws : List ℕ) → Reached ws → (x : Call) → Typed x → outcome ws x .answer .code ≢ damaged-code

@@ -35,6 +35,20 @@ use Rattle.reached.specs.Register.{register-call}
 pub no-make-call : (ws : List ℕ) (x : Call) → Typed x → is-make x ≡ false → Run-call ws x
 no-make-call ws x t e = record { typed = t; no-make = λ p m n q c d. absurd (true≢false (sym (ap is-make d) ∙ e)) }
 
+-- the size that a call registers, or 0: all that is asked of its type
+abbrev size-of : Call → ℕ
+size-of (Call.make p m n q c) = 0
+size-of (Call.register v s) = s
+size-of (Call.v-read w i) = 0
+size-of (Call.v-cas w i old new) = 0
+size-of (Call.take-snapshot w) = 0
+size-of (Call.read-snapshot w i h) = 0
+size-of (Call.total w q h) = 0
+size-of (Call.step w) = 0
+
+pub sized-call : (ws : List ℕ) (x : Call) → size-of x < 4294967296 → is-make x ≡ false → Run-call ws x
+sized-call ws x b = no-make-call ws x (λ v s e. subst (λ (y : Call). size-of y < 4294967296) e b)
+
 -- The words are the image of the machine's state.
 pub record Words-image (ws : List ℕ) (s : Catalogue) : Type 0 where
   pub sized : Sized (s .memory .limits .workers) (s .memory .limits .items) (s .memory .limits .nodes) ws
@@ -63,7 +77,7 @@ header-is-sound ws s U = header-sound (length ws) _ _ _ _ _ _ _ _ _ fits
 call-image : (f : Cells) (s : Catalogue) → Catalogue-image f s → Few-steps (s .worker) → (x : Call) → Typed x → is-make x ≡ false
     → Call-image f s x (comes-to f x)
 call-image f s Z F (Call.make p m n q c) t e = absurd (let z : _≡_ {A = ℕ} 0 1 = cc in omega arith)
-call-image f s Z F (Call.register v z) t e = register-call f s Z v z t
+call-image f s Z F (Call.register v z) t e = register-call f s Z v z (t v z refl)
 call-image f s Z F (Call.v-read w i) t e = v-read-image f s Z F w i
 call-image f s Z F (Call.v-cas w i old new) t e = v-cas-image f s Z F w i old new
 call-image f s Z F (Call.take-snapshot w) t e = take-snapshot-image f s Z F w
@@ -130,12 +144,12 @@ make-call ws s U p m n q c t =
 pub every-call : (ws : List ℕ) (s : Catalogue) → Words-image ws s → Few-steps (s .worker) → (x : Call) → Run-call ws x → Called ws s x
 every-call ws s U F (Call.make p m n q c) t = make-call ws s U p m n q c t
 every-call ws s U F (Call.register v z) t = other-call ws s U F (Call.register v z) (t .typed) refl
-every-call ws s U F (Call.v-read w i) t = other-call ws s U F (Call.v-read w i) tt refl
-every-call ws s U F (Call.v-cas w i old new) t = other-call ws s U F (Call.v-cas w i old new) tt refl
-every-call ws s U F (Call.take-snapshot w) t = other-call ws s U F (Call.take-snapshot w) tt refl
-every-call ws s U F (Call.read-snapshot w i h) t = other-call ws s U F (Call.read-snapshot w i h) tt refl
-every-call ws s U F (Call.total w q h) t = other-call ws s U F (Call.total w q h) tt refl
-every-call ws s U F (Call.step w) t = other-call ws s U F (Call.step w) tt refl
+every-call ws s U F (Call.v-read w i) t = other-call ws s U F (Call.v-read w i) (t .typed) refl
+every-call ws s U F (Call.v-cas w i old new) t = other-call ws s U F (Call.v-cas w i old new) (t .typed) refl
+every-call ws s U F (Call.take-snapshot w) t = other-call ws s U F (Call.take-snapshot w) (t .typed) refl
+every-call ws s U F (Call.read-snapshot w i h) t = other-call ws s U F (Call.read-snapshot w i h) (t .typed) refl
+every-call ws s U F (Call.total w q h) t = other-call ws s U F (Call.total w q h) (t .typed) refl
+every-call ws s U F (Call.step w) t = other-call ws s U F (Call.step w) (t .typed) refl
 
 -- ---- from an accepted make
 

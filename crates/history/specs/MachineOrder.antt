@@ -55,7 +55,7 @@ pub record Instants (s : Catalogue) (time : ℕ → ℕ) : Type 0 where
   pub of-read-snapshot : (o i h : ℕ) → s .fate o .operation ≡ read-snapshot i h → s .fate o .done ≡ true → time o ≡ s .fate o .ended-at
   pub of-total : (o p h : ℕ) → s .fate o .operation ≡ total p h → s .fate o .done ≡ true → time o ≡ s .fate o .ended-at
 
-pub record OneOrder (s : Catalogue) : Type 0 where
+pub record MachineOrder (s : Catalogue) : Type 0 where
   pub order : List ℕ                   -- newest first
   pub time : ℕ → ℕ                     -- when each takes effect
   pub answer : ℕ → ℕ
