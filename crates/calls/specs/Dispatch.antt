@@ -13,7 +13,7 @@ use Rattle.definitions.specs.Cells.{Cells, cells-at, cells-of, items-at, nodes-
 use Rattle.definitions.specs.Answers.{_⇒_, unless}
 use Rattle.definitions.specs.Damage.{arguments-damaged, kept-damaged}
 use Rattle.definitions.specs.Promises.{Met}
-use Rattle.lines.specs.Stepped.{Steps, Ready, stepped}
+use Rattle.endings.specs.Stepped.{Steps, Ready, stepped}
 use Rattle.tables.specs.Ranges.{kept-at, kept-is}
 use Rattle.tables.specs.Rules.{has-operation, snapshot-lines, other-lines}
 use Rattle.calls.specs.Facts.{Header, Busy}

@@ -16,7 +16,7 @@ use Rattle.tables.specs.Ranges.{none-of, some-of, neither}
 use Rattle.definitions.specs.Answers.{Outcome, _⇒_, unless}
 use Rattle.definitions.specs.Lines.{line-of-phase, no-node}
 use Rattle.definitions.specs.Promises.{Met}
-use Rattle.lines.specs.Stepped.{Ready, stepped, Can-take}
+use Rattle.endings.specs.Stepped.{Ready, stepped, Can-take}
 
 within : (low high x : ℕ) → outside low high x ≡ false → x ≤ high
 within low high x e = ltb-false high x (none-of (ltb x low ∷ ltb high x ∷ []) 1 e)

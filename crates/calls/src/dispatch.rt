@@ -1,15 +1,16 @@
 // From a row of the table of phases to its line.
-use change::vcas::{line_43, line_45, line_46, line_48, line_50, line_52};
+use change::{line_43, line_46, line_48, line_50, line_52};
 use definitions::{Answer, PhaseRow};
-use lines::endings::refuse;
-use lines::help::{fetch_head, line_20, line_21, line_22};
+use endings::refuse;
+use help::{fetch_head, line_20, line_21, line_22};
 use lines::snapshot::{line_5, line_6};
 use lines::vread::line_39;
 use tables::damage::kept_at_line_is_damaged;
 use tables::phases::{TAKE_SNAPSHOT, TOTAL};
+use take::line_45;
 use walk::total::{closing_step, line_34, total_32};
 ghost use mathlib.Core.Path.{_≡_};
-ghost use Rattle.lines.specs.Stepped.{Steps};
+ghost use Rattle.endings.specs.Stepped.{Steps};
 ghost use Rattle.calls.specs.Dispatch.{snapshot-line, line-32-of, line-34-of, later-line, by-number, by-row, Later, Fit, Kept, Row-steps};
 
 // takeSnapshot's two lines.

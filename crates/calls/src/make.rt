@@ -1,6 +1,6 @@
 // Make: every needed word is set, the unused ones to zero; words past them are never touched.
 use definitions::Answer;
-use lines::endings::refuse;
+use endings::refuse;
 use tables::damage::{sizes_beyond, words_needed};
 use tables::fields::{COUNTER_LIMIT, ITEMS_LIMIT, NODES_LIMIT, PROJECTS, WORKERS};
 ghost use mathlib.Core.Path.{_≡_};

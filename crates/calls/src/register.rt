@@ -1,19 +1,19 @@
 // Register: a node is taken and stamped with the present counter, and the next item's number is given.
-use change::take::{next_node, none_left, take_node};
 use definitions::Answer;
-use lines::endings::refuse;
+use endings::refuse;
 use tables::damage::{header_is_damaged, node_is_damaged};
 use tables::fields::{
     BIRTH, COUNTER, HEAD, HEADER_WORDS, ITEMS, ITEMS_LIMIT, ITEM_WORDS, PROJECTS, SIZE, USED, WORKERS, WORKER_WORDS,
 };
 use tables::nodes;
+use take::{next_node, none_left, take_node};
 ghost use Prim.Native.Nat.{_<_};
 ghost use lib.ListN.{getD};
 ghost use Rattle.definitions.specs.Cells.{cells-of, items-at, nodes-at};
 ghost use Rattle.definitions.specs.Calls.{outcome, registering, registered};
 ghost use Rattle.definitions.specs.Calls.Call.{register};
 ghost use Rattle.definitions.specs.Promises.{Met, Done};
-ghost use Rattle.lines.specs.Stepped.{Can-take};
+ghost use Rattle.endings.specs.Stepped.{Can-take};
 ghost use Rattle.calls.specs.Facts.{Header};
 
 // The item and its first node, once a node is known to be left and sound.

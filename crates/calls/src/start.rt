@@ -1,6 +1,6 @@
 // The starts of the five operations. Each touches the worker's record alone.
 use definitions::Answer;
-use lines::endings::{refuse, write_record};
+use endings::{refuse, write_record};
 use tables::damage::{header_is_damaged, item_is_damaged, worker_is_damaged};
 use tables::fields::{BIRTH, COUNTER, HEADER_WORDS, ITEMS, ITEM_WORDS, PHASE, PROJECTS, WORKERS, WORKER_WORDS};
 use tables::phases::{CLOSING_PHASE, READ_SNAPSHOT_START, TAKE_SNAPSHOT_START, TOTAL_START, V_CAS_START, V_READ_START};

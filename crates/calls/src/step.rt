@@ -1,7 +1,7 @@
 // One step of a worker.
 use crate::dispatch::run_row;
 use definitions::{Answer, PhaseRow};
-use lines::endings::refuse;
+use endings::refuse;
 use tables::damage::{header_is_damaged, item_is_damaged, steps_or_arguments_are_damaged};
 use tables::fields::{HEADER_WORDS, ITEM, ITEMS_LIMIT, ITEM_WORDS, PHASE, WORKERS, WORKER_WORDS};
 use tables::phases::{row_at, CLOSING_PHASE, TAKE_SNAPSHOT};

@@ -1,11 +1,11 @@
 // Lines 5 and 6, takeSnapshot.
-use crate::endings::{end_with, finish, go_on};
+use endings::{end_with, finish, go_on};
 use definitions::Answer;
 use tables::fields::{COUNTER, COUNTER_LIMIT, HEADER_WORDS, PHASE, SEEN, STEPS, WORKER_WORDS};
 ghost use Prim.Native.Nat.{_+_, _*_, _<_};
 ghost use lib.ListN.{getD};
 ghost use Rattle.definitions.specs.Lines.{line, no-words, line-5, line-6};
-ghost use Rattle.lines.specs.Stepped.{Steps, Ready};
+ghost use Rattle.endings.specs.Stepped.{Steps, Ready};
 
 // Line 5: the counter is read, unless it has reached its limit.
 pub fn line_5(words: &mut [u32], items_at: usize, nodes_at: usize, w: usize) -> Answer

@@ -1,10 +1,10 @@
 // Line 39, the end of vRead.
-use crate::endings::{finish, refuse};
+use endings::{finish, refuse};
 use definitions::Answer;
 use tables::fields::{HEADER_WORDS, NODE, PROJECTS, STEPS, VALUE, WORKER_WORDS};
 use tables::nodes;
 ghost use Rattle.definitions.specs.Lines.{line, its-value, line-39};
-ghost use Rattle.lines.specs.Stepped.{Steps, Ready, Has-node};
+ghost use Rattle.endings.specs.Stepped.{Steps, Ready, Has-node};
 
 // Line 39: the node's value is answered.
 pub fn line_39(words: &mut [u32], items_at: usize, nodes_at: usize, w: usize) -> Answer

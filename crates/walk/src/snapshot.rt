@@ -1,6 +1,6 @@
 // Line 34's walk to the version at a handle, which readSnapshot and total share.
 use definitions::Answer;
-use lines::endings::go_on;
+use endings::go_on;
 use tables::fields::{HEADER_WORDS, NODE, OLDER, PHASE, STAMP, STEPS, VALUE, WORKER_WORDS};
 use tables::nodes;
 ghost use mathlib.Core.Path.{_≡_};
@@ -9,7 +9,7 @@ ghost use lib.ListN.{length};
 ghost use Rattle.definitions.specs.Cells.{cells-at};
 ghost use Rattle.definitions.specs.Lines.{to-older};
 ghost use Rattle.definitions.specs.Promises.{Met};
-ghost use Rattle.lines.specs.Stepped.{Ready, Has-node, Has-older, node-tested};
+ghost use Rattle.endings.specs.Stepped.{Ready, Has-node, Has-older, node-tested};
 
 // Line 34's test of a node, in the node part: its stamp, and the one word that it reads after that.
 pub fn tested_is_damaged(nodes: &[u32], n: usize, handle: u32, projects: u32, used: u32, counter: u32) -> bool

@@ -1,7 +1,7 @@
 // A total's own lines, its line 32 with the skip and the closing step; and line 34, of readSnapshot and total.
 use crate::snapshot::{go_to_older, tested_is_damaged};
 use definitions::Answer;
-use lines::endings::{finish, go_on, refuse};
+use endings::{finish, go_on, refuse};
 use tables::damage::sum_of;
 use tables::fields::{
     BIRTH, COUNTER, HANDLE, HEAD, HEADER_WORDS, ITEM, ITEM_WORDS, NODE, NOTED, PHASE, PROJECT, PROJECTS, SIZE, STAMP, STEPS,
@@ -16,7 +16,7 @@ ghost use lib.Dec.{eqb};
 ghost use lib.ListN.{length, getD};
 ghost use Rattle.definitions.specs.Answers.{running};
 ghost use Rattle.definitions.specs.Lines.{line, no-words, tested-node, line-34, total-32, total-34, closing};
-ghost use Rattle.lines.specs.Stepped.{Steps, Ready, In-item, Has-node, moved-on, Small-sum, item-added};
+ghost use Rattle.endings.specs.Stepped.{Steps, Ready, In-item, Has-node, moved-on, Small-sum, item-added};
 
 // A total goes on at its next item, or at its closing step.
 fn go_to_place(words: &mut [u32], w: usize, place: u32, noted: u32, steps: u32) -> Answer

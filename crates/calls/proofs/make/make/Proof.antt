@@ -20,7 +20,7 @@ use Rattle.calls.proofs.make.make.Tie as tie
 use Rattle.calls.proofs.make.make.Reads as reads
 use Rattle.calls.proofs.make.make.Lts as lts
 use Rattle.calls.proofs.make.clear.Reads as clear-reads
-use Rattle.lines.proofs.endings.refuse.Reads as refuse-reads
+use Rattle.endings.proofs.refuse.Reads as refuse-reads
 use Rattle.tables.proofs.damage.sizes_beyond.Reads as sizes-beyond-reads
 use Rattle.tables.proofs.damage.words_needed.Reads as words-needed-reads
 

@@ -6,7 +6,7 @@ use lib.ListN.{length, getD}
 use native.Mathlib.Omega.{arith}
 use borrow.Author.Tests.{eq-eqb, ne-eqb, lt-ltb, le-ltb, le-leb, lt-leb}
 use Rattle.definitions.specs.Cells.{cells-at, cells-of, items-at, nodes-at}
-use Rattle.lines.specs.Laws.{met-if, met-else, refuses}
+use Rattle.endings.specs.Laws.{met-if, met-else, refuses}
 use Rattle.calls.specs.Refusals.{done}
 use Rattle.calls.specs.Facts.{header-sound, item-there, can-take-at}
 use Rattle.calls.specs.Dispatch.{fit, row-operation, row-snapshot, line-tied}
@@ -17,7 +17,7 @@ use Rattle.calls.proofs.register.register.Tie as tie
 use Rattle.calls.proofs.register.register.Reads as reads
 use Rattle.calls.proofs.register.register.Lts as lts
 use Rattle.calls.proofs.register.register_sound.Reads as register-sound-reads
-use Rattle.lines.proofs.endings.refuse.Reads as refuse-reads
+use Rattle.endings.proofs.refuse.Reads as refuse-reads
 use Rattle.tables.proofs.damage.header_is_damaged.Reads as header-is-damaged-reads
 
 -- src/register.rt:65:8

@@ -6,11 +6,11 @@ use lib.ListN.{length, getD}
 use native.Mathlib.Omega.{arith}
 use borrow.Author.Tests.{eq-eqb, ne-eqb, lt-ltb, le-ltb, le-leb, lt-leb}
 use Rattle.definitions.specs.Cells.{cells-at, cells-of, items-at, nodes-at}
-use Rattle.lines.specs.Laws.{met-if, met-else, refuses}
+use Rattle.endings.specs.Laws.{met-if, met-else, refuses}
 use Rattle.calls.specs.Refusals.{done}
 use Rattle.calls.specs.Facts.{header-sound, item-there, can-take-at}
 use Rattle.calls.specs.Dispatch.{fit, row-operation, row-snapshot, line-tied}
-use Rattle.lines.specs.Laws.{outside-is, taken-fits}
+use Rattle.endings.specs.Laws.{outside-is, taken-fits}
 use Rattle.definitions.specs.Lines.{no-node, node-to-take}
 use Rattle.definitions.specs.Calls.{registering}
 use borrow.Author.Needs.{needs}
@@ -19,9 +19,9 @@ use Rattle.calls.proofs.register.register_sound.Tie as tie
 use Rattle.calls.proofs.register.register_sound.Reads as reads
 use Rattle.calls.proofs.register.register_sound.Lts as lts
 use Rattle.calls.proofs.register.register_taking.Reads as register-taking-reads
-use Rattle.change.proofs.take.next_node.Reads as next-node-reads
-use Rattle.change.proofs.take.none_left.Reads as none-left-reads
-use Rattle.lines.proofs.endings.refuse.Reads as refuse-reads
+use Rattle.take.proofs.next_node.Reads as next-node-reads
+use Rattle.take.proofs.none_left.Reads as none-left-reads
+use Rattle.endings.proofs.refuse.Reads as refuse-reads
 use Rattle.tables.proofs.damage.node_is_damaged.Reads as node-is-damaged-reads
 
 left : (c : tie.Else3) → no-node (cells-of (c .before .before .before .before .before .before .before .before .before .args .words .now)) ≡ false

@@ -6,14 +6,14 @@ use native.Mathlib.Omega.{arith}
 use Rattle.tables.specs.Part.{write-part, length-back, back, _gets_}
 use Rattle.definitions.specs.Cells.{Assignment, _≔_, cells-of, items-at, nodes-at, counter, items, value, older, stamp, head, birth, size}
 use Rattle.definitions.specs.Lines.{taking}
-use Rattle.lines.specs.Laws.{taken-then, taken-fits, length-written}
+use Rattle.endings.specs.Laws.{taken-then, taken-fits, length-written}
 use borrow.Author.Needs.{needs}
 use Rattle.calls.proofs.register.register_taking.Statement.{statement}
 use Rattle.calls.proofs.register.register_taking.Tie as tie
 use Rattle.calls.proofs.register.register_taking.Reads as reads
 use Rattle.calls.proofs.register.register_taking.Lts as lts
-use Rattle.change.proofs.take.next_node.Reads as next-node-reads
-use Rattle.change.proofs.take.take_node.Reads as take-node-reads
+use Rattle.take.proofs.next_node.Reads as next-node-reads
+use Rattle.take.proofs.take_node.Reads as take-node-reads
 use Rattle.tables.proofs.nodes.make.Reads as make-reads
 
 -- the node taken is one of the N

@@ -9,7 +9,7 @@ use borrow.Author.Tests.{eq-eqb, ne-eqb, lt-ltb, le-ltb, le-leb, lt-leb}
 use Rattle.definitions.specs.Answers.{Outcome, Refusal, _⇒_, accepts}
 use Rattle.definitions.specs.Cells.{Cells, cells-at, cells-of, items-at, nodes-at, record-of, birth, items}
 use Rattle.definitions.specs.Damage.{bad-value, bad-handle}
-use Rattle.lines.specs.Laws.{met-if, met-else, refuses}
+use Rattle.endings.specs.Laws.{met-if, met-else, refuses}
 use Rattle.calls.specs.Refusals.{done, met-first, met-past, worker-refusals}
 use Rattle.calls.specs.Facts.{Header, header-sound}
 use Rattle.calls.specs.Starts.{free, held, here, later, header-there, worker-there, registered-item}
@@ -23,8 +23,8 @@ use Rattle.calls.proofs.start.accept.Reads as accept-reads
 use Rattle.calls.proofs.start.item_refusal.Reads as item-refusal-reads
 use Rattle.calls.proofs.start.worker_refusal.Reads as worker-refusal-reads
 use Rattle.calls.proofs.start.is_held.Reads as is-held-reads
-use Rattle.lines.proofs.endings.refuse.Reads as refuse-reads
-use Rattle.lines.proofs.endings.write_record.Reads as write-record-reads
+use Rattle.endings.proofs.refuse.Reads as refuse-reads
+use Rattle.endings.proofs.write_record.Reads as write-record-reads
 
 handles : Cells → ℕ → ℕ → List Refusal
 handles m i h = bad-handle m h ⇒ 8 ∷ ltb h (m (birth i)) ⇒ 9 ∷ []

@@ -6,7 +6,7 @@ use lib.ListN.{length, getD}
 use native.Mathlib.Omega.{arith}
 use borrow.Author.Tests.{eq-eqb, ne-eqb, lt-ltb, le-ltb, le-leb, lt-leb}
 use Rattle.definitions.specs.Cells.{cells-at, cells-of, items-at, nodes-at, record-of}
-use Rattle.lines.specs.Laws.{met-if, met-else, refuses}
+use Rattle.endings.specs.Laws.{met-if, met-else, refuses}
 use Rattle.calls.specs.Refusals.{done, met-first, met-past, worker-refusals}
 use Rattle.calls.specs.Facts.{Header, header-sound}
 use Rattle.calls.specs.Starts.{free, held, here, later, header-there, worker-there, registered-item}
@@ -20,8 +20,8 @@ use Rattle.calls.proofs.start.start_take_snapshot.Lts as lts
 use Rattle.calls.proofs.start.accept.Reads as accept-reads
 use Rattle.calls.proofs.start.worker_refusal.Reads as worker-refusal-reads
 use Rattle.calls.proofs.start.is_held.Reads as is-held-reads
-use Rattle.lines.proofs.endings.refuse.Reads as refuse-reads
-use Rattle.lines.proofs.endings.write_record.Reads as write-record-reads
+use Rattle.endings.proofs.refuse.Reads as refuse-reads
+use Rattle.endings.proofs.write_record.Reads as write-record-reads
 
 is-held-requires : tie.Need-is-held-requires
 is-held-requires c κs = search needs

@@ -4,7 +4,7 @@ use Prim.Native.Nat.{_+_, _*_}
 use lib.ListN.{getD}
 use borrow.Author.Tests.{eq-eqb, ne-eqb, le-leb, lt-leb}
 use Rattle.definitions.specs.Cells.{cells-of, items-at, nodes-at}
-use Rattle.lines.specs.Laws.{met-if, met-else, refuses}
+use Rattle.endings.specs.Laws.{met-if, met-else, refuses}
 use Rattle.calls.specs.Dispatch.{fit, row-operation, row-snapshot, row-other, line-tied}
 use borrow.Author.Needs.{needs}
 use Rattle.calls.proofs.step.step_busy.Statement.{statement}
@@ -13,7 +13,7 @@ use Rattle.calls.proofs.step.step_busy.Reads as reads
 use Rattle.calls.proofs.step.step_busy.Lts as lts
 use Rattle.calls.proofs.dispatch.run_row.Reads as run-row-reads
 use Rattle.calls.proofs.step.its_item_is_damaged.Reads as its-item-is-damaged-reads
-use Rattle.lines.proofs.endings.refuse.Reads as refuse-reads
+use Rattle.endings.proofs.refuse.Reads as refuse-reads
 
 -- src/step.rt:41:51
 slice-read-items-at : tie.Need-slice-read-items-at

@@ -5,8 +5,8 @@ use Rattle.definitions.specs.Cells.{cells-of, items-at, nodes-at, phase, item}
 use Rattle.definitions.specs.Phases.{row-of}
 use Rattle.definitions.specs.Damage.{inside-item, kept-damaged, worker-damaged, item-damaged}
 use Rattle.definitions.specs.Lines.{line-of-phase}
-use Rattle.lines.specs.Stepped.{stepped}
-use Rattle.lines.specs.Laws.{met-if, met-else, refuses}
+use Rattle.endings.specs.Stepped.{stepped}
+use Rattle.endings.specs.Laws.{met-if, met-else, refuses}
 use Rattle.definitions.specs.Calls.{stepping}
 use Rattle.calls.specs.Facts.{unknown-phase, idle-sound, early-told, early-damaged, late-damaged, made-busy, in-order}
 use borrow.Author.Needs.{needs}
@@ -15,7 +15,7 @@ use Rattle.calls.proofs.step.step_sound.Tie as tie
 use Rattle.calls.proofs.step.step_sound.Reads as reads
 use Rattle.calls.proofs.step.step_sound.Lts as lts
 use Rattle.calls.proofs.step.step_busy.Reads as step-busy-reads
-use Rattle.lines.proofs.endings.refuse.Reads as refuse-reads
+use Rattle.endings.proofs.refuse.Reads as refuse-reads
 use Rattle.tables.proofs.damage.steps_or_arguments_are_damaged.Reads as steps-or-arguments-are-damaged-reads
 use Rattle.tables.proofs.phases.row_at.Reads as row-at-reads
 

@@ -5,15 +5,15 @@ use lib.ListN.{length, getD}
 use lib.ListN.{length-set}
 use native.Mathlib.Omega.{arith}
 use borrow.Author.Tests.{eq-eqb, ne-eqb, lt-ltb, le-ltb, le-leb, lt-leb}
-use Rattle.lines.specs.Laws.{met-if, met-else, refuses, node-word}
+use Rattle.endings.specs.Laws.{met-if, met-else, refuses, node-word}
 use Rattle.definitions.specs.Lines.{line-5}
 use borrow.Author.Needs.{needs}
 use Rattle.lines.proofs.snapshot.line_5.Statement.{statement}
 use Rattle.lines.proofs.snapshot.line_5.Tie as tie
 use Rattle.lines.proofs.snapshot.line_5.Reads as reads
 use Rattle.lines.proofs.snapshot.line_5.Lts as lts
-use Rattle.lines.proofs.endings.end_with.Reads as end-with-reads
-use Rattle.lines.proofs.endings.go_on.Reads as go-on-reads
+use Rattle.endings.proofs.end_with.Reads as end-with-reads
+use Rattle.endings.proofs.go_on.Reads as go-on-reads
 
 -- src/snapshot.rt:19:29
 mul-at : tie.Need-mul-at

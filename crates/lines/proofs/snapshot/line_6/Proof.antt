@@ -5,14 +5,14 @@ use lib.ListN.{length, getD}
 use lib.ListN.{length-set}
 use native.Mathlib.Omega.{arith}
 use borrow.Author.Tests.{eq-eqb, ne-eqb, lt-ltb, le-ltb, le-leb, lt-leb}
-use Rattle.lines.specs.Laws.{met-if, met-else, refuses, node-word}
+use Rattle.endings.specs.Laws.{met-if, met-else, refuses, node-word}
 use Rattle.definitions.specs.Lines.{line-6}
 use borrow.Author.Needs.{needs}
 use Rattle.lines.proofs.snapshot.line_6.Statement.{statement}
 use Rattle.lines.proofs.snapshot.line_6.Tie as tie
 use Rattle.lines.proofs.snapshot.line_6.Reads as reads
 use Rattle.lines.proofs.snapshot.line_6.Lts as lts
-use Rattle.lines.proofs.endings.finish.Reads as finish-reads
+use Rattle.endings.proofs.finish.Reads as finish-reads
 
 -- src/snapshot.rt:34:29
 mul-at : tie.Need-mul-at

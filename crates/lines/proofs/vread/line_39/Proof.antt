@@ -5,15 +5,15 @@ use lib.ListN.{length, getD}
 use lib.ListN.{length-set}
 use native.Mathlib.Omega.{arith}
 use borrow.Author.Tests.{eq-eqb, ne-eqb, lt-ltb, le-ltb, le-leb, lt-leb}
-use Rattle.lines.specs.Laws.{met-if, met-else, refuses, node-word}
+use Rattle.endings.specs.Laws.{met-if, met-else, refuses, node-word}
 use Rattle.definitions.specs.Lines.{line-39}
 use borrow.Author.Needs.{needs}
 use Rattle.lines.proofs.vread.line_39.Statement.{statement}
 use Rattle.lines.proofs.vread.line_39.Tie as tie
 use Rattle.lines.proofs.vread.line_39.Reads as reads
 use Rattle.lines.proofs.vread.line_39.Lts as lts
-use Rattle.lines.proofs.endings.finish.Reads as finish-reads
-use Rattle.lines.proofs.endings.refuse.Reads as refuse-reads
+use Rattle.endings.proofs.finish.Reads as finish-reads
+use Rattle.endings.proofs.refuse.Reads as refuse-reads
 use Rattle.tables.proofs.nodes.word.Reads as word-reads
 
 -- src/vread.rt:14:29

@@ -5,13 +5,13 @@ use lib.ListN.{length, getD}
 use lib.ListN.{length-set}
 use native.Mathlib.Omega.{arith}
 use borrow.Author.Tests.{eq-eqb, ne-eqb, lt-ltb, le-ltb, le-leb, lt-leb}
-use Rattle.lines.specs.Laws.{met-if, met-else, refuses, node-word}
+use Rattle.endings.specs.Laws.{met-if, met-else, refuses, node-word}
 use borrow.Author.Needs.{needs}
 use Rattle.walk.proofs.snapshot.go_to_older.Statement.{statement}
 use Rattle.walk.proofs.snapshot.go_to_older.Tie as tie
 use Rattle.walk.proofs.snapshot.go_to_older.Reads as reads
 use Rattle.walk.proofs.snapshot.go_to_older.Lts as lts
-use Rattle.lines.proofs.endings.go_on.Reads as go-on-reads
+use Rattle.endings.proofs.go_on.Reads as go-on-reads
 use Rattle.tables.proofs.nodes.word.Reads as word-reads
 
 -- src/snapshot.rt:62:29

@@ -5,14 +5,14 @@ use lib.ListN.{length, getD}
 use lib.ListN.{length-set}
 use native.Mathlib.Omega.{arith}
 use borrow.Author.Tests.{eq-eqb, ne-eqb, lt-ltb, le-ltb, le-leb, lt-leb}
-use Rattle.lines.specs.Laws.{met-if, met-else, refuses, node-word}
+use Rattle.endings.specs.Laws.{met-if, met-else, refuses, node-word}
 use Rattle.definitions.specs.Lines.{closing}
 use borrow.Author.Needs.{needs}
 use Rattle.walk.proofs.total.closing_step.Statement.{statement}
 use Rattle.walk.proofs.total.closing_step.Tie as tie
 use Rattle.walk.proofs.total.closing_step.Reads as reads
 use Rattle.walk.proofs.total.closing_step.Lts as lts
-use Rattle.lines.proofs.endings.finish.Reads as finish-reads
+use Rattle.endings.proofs.finish.Reads as finish-reads
 use Rattle.tables.proofs.damage.sum_of.Reads as sum-of-reads
 
 -- src/total.rt:103:29

@@ -5,13 +5,13 @@ use lib.ListN.{length, getD}
 use lib.ListN.{length-set}
 use native.Mathlib.Omega.{arith}
 use borrow.Author.Tests.{eq-eqb, ne-eqb, lt-ltb, le-ltb, le-leb, lt-leb}
-use Rattle.lines.specs.Laws.{met-if, met-else, refuses, node-word}
+use Rattle.endings.specs.Laws.{met-if, met-else, refuses, node-word}
 use borrow.Author.Needs.{needs}
 use Rattle.walk.proofs.total.go_to_place.Statement.{statement}
 use Rattle.walk.proofs.total.go_to_place.Tie as tie
 use Rattle.walk.proofs.total.go_to_place.Reads as reads
 use Rattle.walk.proofs.total.go_to_place.Lts as lts
-use Rattle.lines.proofs.endings.go_on.Reads as go-on-reads
+use Rattle.endings.proofs.go_on.Reads as go-on-reads
 
 -- src/total.rt:26:9
 go-on-requires : tie.Need-go-on-requires

@@ -9,15 +9,15 @@ use borrow.Author.Tests.{eq-eqb, ne-eqb, lt-ltb, le-ltb}
 use Rattle.definitions.specs.declared.Answer.{Answer}
 use Rattle.definitions.specs.Cells.{cells-at}
 use Rattle.definitions.specs.Lines.{line, line-34, total-34, too-new, tested-node}
-use Rattle.lines.specs.Stepped.{Steps}
-use Rattle.lines.specs.Laws.{met-if, met-else, refuses, node-word, tested-is, older-there}
+use Rattle.endings.specs.Stepped.{Steps}
+use Rattle.endings.specs.Laws.{met-if, met-else, refuses, node-word, tested-is, older-there}
 use borrow.Author.Needs.{needs}
 use Rattle.walk.proofs.total.line_34.Statement.{statement}
 use Rattle.walk.proofs.total.line_34.Tie as tie
 use Rattle.walk.proofs.total.line_34.Reads as reads
 use Rattle.walk.proofs.total.line_34.Lts as lts
-use Rattle.lines.proofs.endings.finish.Reads as finish-reads
-use Rattle.lines.proofs.endings.refuse.Reads as refuse-reads
+use Rattle.endings.proofs.finish.Reads as finish-reads
+use Rattle.endings.proofs.refuse.Reads as refuse-reads
 use Rattle.tables.proofs.nodes.word.Reads as word-reads
 use Rattle.walk.proofs.snapshot.go_to_older.Reads as go-to-older-reads
 use Rattle.walk.proofs.snapshot.tested_is_damaged.Reads as tested-is-damaged-reads

@@ -5,7 +5,7 @@ use lib.ListN.{length, getD}
 use lib.ListN.{length-set}
 use native.Mathlib.Omega.{arith}
 use borrow.Author.Tests.{eq-eqb, ne-eqb, lt-ltb, le-ltb, le-leb, lt-leb}
-use Rattle.lines.specs.Laws.{met-if, met-else, refuses, node-word}
+use Rattle.endings.specs.Laws.{met-if, met-else, refuses, node-word}
 use native.Mathlib.Nat.{add-zero}
 use borrow.Author.Needs.{needs}
 use Rattle.walk.proofs.total.sum_with.Statement.{statement}

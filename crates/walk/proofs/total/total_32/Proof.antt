@@ -3,7 +3,7 @@ use mathlib.Core.List.{[], _∷_, _++_}
 use Prim.Native.Nat.{_+_, _*_, _<_, _≤_}
 use lib.ListN.{length, getD}
 use borrow.Author.Tests.{eq-eqb, ne-eqb, lt-ltb, le-ltb, le-leb, lt-leb}
-use Rattle.lines.specs.Laws.{met-if, met-else, refuses, node-word}
+use Rattle.endings.specs.Laws.{met-if, met-else, refuses, node-word}
 use Rattle.definitions.specs.Lines.{total-32}
 use native.Mathlib.Omega.{arith}
 use lib.ListN.{length-set}
@@ -12,7 +12,7 @@ use Rattle.walk.proofs.total.total_32.Statement.{statement}
 use Rattle.walk.proofs.total.total_32.Tie as tie
 use Rattle.walk.proofs.total.total_32.Reads as reads
 use Rattle.walk.proofs.total.total_32.Lts as lts
-use Rattle.lines.proofs.endings.go_on.Reads as go-on-reads
+use Rattle.endings.proofs.go_on.Reads as go-on-reads
 use Rattle.walk.proofs.total.go_to_place.Reads as go-to-place-reads
 
 -- src/total.rt:36:29
