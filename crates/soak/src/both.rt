@@ -36,12 +36,12 @@ fn code_answers(words: &mut [u32], call: Call) -> Answer {
 fn model_starts(memory: &mut [usize], call: Call, lent: usize, worker: usize) -> Reply {
     let operation = call.operation;
     match operation {
-        3 => model::starts::v_read(memory, lent, worker, size_of(call.b)),
-        4 => model::starts::v_cas(memory, lent, worker, size_of(call.b), size_of(call.c), size_of(call.d)),
-        5 => model::starts::take_snapshot(memory, lent, worker),
-        6 => model::starts::read_snapshot(memory, lent, worker, size_of(call.b), size_of(call.c)),
-        7 => model::starts::total(memory, lent, worker, size_of(call.b), size_of(call.c)),
-        _ => model::steps::step(memory, lent, worker),
+        3 => operations::starts::v_read(memory, lent, worker, size_of(call.b)),
+        4 => operations::starts::v_cas(memory, lent, worker, size_of(call.b), size_of(call.c), size_of(call.d)),
+        5 => operations::starts::take_snapshot(memory, lent, worker),
+        6 => operations::starts::read_snapshot(memory, lent, worker, size_of(call.b), size_of(call.c)),
+        7 => operations::starts::total(memory, lent, worker, size_of(call.b), size_of(call.c)),
+        _ => operations::steps::step(memory, lent, worker),
     }
 }
 

@@ -1,26 +1,26 @@
 // The starts of the five operations. "Starting touches the worker's record and is not a step."
-use crate::history::is_born_after;
-use crate::memory::COUNTER;
-use crate::memory::FETCH;
-use crate::memory::HANDLE;
-use crate::memory::ITEM;
-use crate::memory::ITEMS;
-use crate::memory::NEW;
-use crate::memory::NOTED;
-use crate::memory::OLD;
-use crate::memory::OPERATION;
-use crate::memory::OUTCOME;
-use crate::memory::PROJECT;
-use crate::memory::PROJECTS;
-use crate::memory::STEPS;
-use crate::memory::WORKERS;
-use crate::memory::field;
-use crate::memory::get;
-use crate::memory::set_field;
-use crate::setup::Reply;
-use crate::setup::done;
-use crate::setup::is_damaged;
-use crate::setup::refused;
+use model::history::is_born_after;
+use model::memory::COUNTER;
+use model::memory::FETCH;
+use model::memory::HANDLE;
+use model::memory::ITEM;
+use model::memory::ITEMS;
+use model::memory::NEW;
+use model::memory::NOTED;
+use model::memory::OLD;
+use model::memory::OPERATION;
+use model::memory::OUTCOME;
+use model::memory::PROJECT;
+use model::memory::PROJECTS;
+use model::memory::STEPS;
+use model::memory::WORKERS;
+use model::memory::field;
+use model::memory::get;
+use model::memory::set_field;
+use model::setup::Reply;
+use model::setup::done;
+use model::setup::is_damaged;
+use model::setup::refused;
 
 pub const V_READ: usize = 1;
 
