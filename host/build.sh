@@ -4,9 +4,11 @@ set -eu
 cd "$(dirname "$0")/.."
 if [ $# -eq 0 ]; then sed -n 's/^# usage/usage/p' host/build.sh >&2; exit 2; fi
 name=$1
+. host/machine.sh
+has_compiler >&2
 bash host/archive.sh
 mkdir -p target/host
 sources=()
 for source in "$@"; do sources+=("host/$source.c"); done
 # shellcheck disable=SC2086
-${CC:-gcc} -std=gnu11 -O2 -Wall -Wextra -Werror -Iinclude ${CFLAGS:-} "${sources[@]}" target/staticlib/libcatalogue.a -o "target/host/$name"
+compile_to "target/host/$name" -std=gnu11 -O2 -Wall -Wextra -Werror -Iinclude ${CFLAGS:-} "${sources[@]}" target/staticlib/libcatalogue.a

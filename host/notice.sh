@@ -4,6 +4,7 @@
 set -eu
 cd "$(dirname "$0")/.."
 seconds=${1:-5}
+. host/machine.sh
 bash host/build.sh hostile archive oracle tables
 there=$(mktemp -d)
 trap 'rm -rf "$there"' EXIT
@@ -23,7 +24,7 @@ for number, (what, old, new) in enumerate(blocks):
 PYTHON
 noticed=0 missed=0
 for wrong in "$there"/wrong*.c; do
-  gcc -std=gnu11 -O2 -Iinclude -Ihost "$there"/hostile.c "$there"/archive.c "$there"/tables.c "$wrong" target/staticlib/libcatalogue.a -o "$there/hostile"
+  compile_to "$there/hostile" -std=gnu11 -O2 -Iinclude -Ihost "$there"/hostile.c "$there"/archive.c "$there"/tables.c "$wrong" target/staticlib/libcatalogue.a
   if "$there/hostile" -s "$seconds" > "$there/out" 2> "$there/err"; then
     missed=$((missed + 1)); echo "not noticed: $(cat "${wrong%.c}.name")"
   elif grep -q 'the oracle:' "$there/err"; then

@@ -3,6 +3,8 @@
 # PREFIX, which is of the caller's folder, with characters that sed would take for its own; and below a DESTDIR.
 set -eu
 cd "$(dirname "$0")/.."
+. host/machine.sh
+has_compiler || { echo "not tested: the package"; exit 0; }
 there=$(mktemp -d)
 trap 'rm -rf "$there"' EXIT
 bash host/install.sh "$there" > /dev/null
@@ -12,10 +14,10 @@ else
   flags="-I$there/include -L$there/lib -lgoravesha"
 fi
 # shellcheck disable=SC2086
-gcc -std=c11 -O2 -Wall -Wextra -Werror host/example.c $flags -o "$there/example"
+compile_to "$there/example" -std=c11 -O2 -Wall -Wextra -Werror host/example.c $flags
 "$there/example"
 # The header alone, as C and as C++.
-echo '#include <goravesha.h>' | gcc -std=c11 -Wall -Wextra -Wpedantic -Werror -I"$there/include" -x c -c - -o /dev/null
+echo '#include <goravesha.h>' | "$compiler" -std=c11 -Wall -Wextra -Wpedantic -Werror -I"$there/include" -x c -c - -o /dev/null
 if command -v g++ > /dev/null; then echo '#include <goravesha.h>' | g++ -Wall -Wextra -Wpedantic -Werror -I"$there/include" -x c++ -c - -o /dev/null; fi
 fail() { echo "install: $1"; exit 1; }
 installs() { # FOLDER PREFIX: all stands in FOLDER, and the pkg-config file says PREFIX

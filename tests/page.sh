@@ -2,6 +2,8 @@
 # The host's page: built against the archive and run; its first lines are document 01's listing.
 set -eu
 cd "$(dirname "$0")/.."
+. host/machine.sh
+has_compiler || { echo "not tested: the page"; exit 0; }
 bash host/build.sh page
 target/host/page > target/host/page.out
 diff tests/listing.out target/host/page.out

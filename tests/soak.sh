@@ -2,7 +2,8 @@
 # soak's arguments: an odd one is answered with the usage on standard error and nothing runs; -h and --help print it; good ones run as they say.
 # usage: tests/soak.sh [PROGRAM]
 cd "$(dirname "$0")/.." || exit 2
-program=${1:-target/bin/soak}
+. host/machine.sh
+program=${1:-$(runnable target/bin/soak)}
 failed=0
 usage='usage: soak [SEED [ROUNDS]]'
 says() { # WHAT GOT WANTED

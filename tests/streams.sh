@@ -3,7 +3,8 @@
 # an input that cannot be read on.
 # usage: tests/streams.sh [PROGRAM]
 cd "$(dirname "$0")/.." || exit 2
-program=${1:-target/bin/schedule}
+. host/machine.sh
+program=${1:-$(runnable target/bin/schedule)}
 bad=1d00000000000000000000
 failed=0
 expect() { # NAME GOT WANTED

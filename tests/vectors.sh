@@ -1,7 +1,8 @@
 #!/bin/bash
 # Runs schedule on every tests/vectors/NAME.in and holds what it prints to NAME.out, byte for byte. usage: tests/vectors.sh [PROGRAM]
 cd "$(dirname "$0")/.." || exit 2
-program=${1:-target/bin/schedule}
+. host/machine.sh
+program=${1:-$(runnable target/bin/schedule)}
 passed=0
 failed=0
 for input in tests/vectors/*.in; do

@@ -1,5 +1,2 @@
-pub mod Refusals
-pub mod Facts
-pub mod Dispatch
 pub mod Zeros
 pub mod Starts

@@ -8,8 +8,8 @@ use mathlib.Core.List.{List}
 use borrow.Author.Tests.{leb-false, eqb-true, ne-eqb}
 use Rattle.definitions.specs.Cells.{cells-of, workers, items}
 use Rattle.definitions.specs.Calls.{sound-item}
-use Rattle.calls.specs.Facts.{Header, header-sound}
-use Rattle.calls.specs.Refusals.{first-of, first-none, worker-refusals}
+use Rattle.facts.specs.Facts.{Header, header-sound}
+use Rattle.facts.specs.Refusals.{first-of, first-none, worker-refusals}
 
 -- A number is the first of a chain: here, or later.
 pub here : {t : Bool} {n : ℕ} (k : ℕ) → t ≡ true → n ≡ cond t n k

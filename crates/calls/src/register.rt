@@ -14,7 +14,7 @@ ghost use Rattle.definitions.specs.Calls.{outcome, registering, registered};
 ghost use Rattle.definitions.specs.Calls.Call.{register};
 ghost use Rattle.definitions.specs.Promises.{Met, Done};
 ghost use Rattle.endings.specs.Stepped.{Can-take};
-ghost use Rattle.calls.specs.Facts.{Header};
+ghost use Rattle.facts.specs.Facts.{Header};
 
 // The item and its first node, once a node is known to be left and sound.
 fn register_taking(words: &mut [u32], value: u32, size: u32) -> Answer

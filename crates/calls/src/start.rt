@@ -13,8 +13,8 @@ ghost use Rattle.definitions.specs.Cells.{cells-of};
 ghost use Rattle.definitions.specs.Calls.{outcome, sound-item};
 ghost use Rattle.definitions.specs.Calls.Call.{v-read, v-cas, take-snapshot, read-snapshot, total};
 ghost use Rattle.definitions.specs.Promises.{Done};
-ghost use Rattle.calls.specs.Facts.{Header};
-ghost use Rattle.calls.specs.Refusals.{first-of, worker-refusals};
+ghost use Rattle.facts.specs.Facts.{Header};
+ghost use Rattle.facts.specs.Refusals.{first-of, worker-refusals};
 
 // The first refusal that the header, the worker's number and its record give; 0 where there is none.
 fn worker_refusal(words: &[u32], worker: u32) -> u32

@@ -4,7 +4,7 @@
 use calls::make::make;
 use calls::register::register;
 use calls::start::{start_read_snapshot, start_take_snapshot, start_total, start_vcas, start_vread};
-use calls::step::step;
+use steps::step;
 ghost use Rattle.definitions.specs.Calls.{outcome, Call};
 ghost use Rattle.definitions.specs.Promises.{Told};
 

@@ -20,7 +20,7 @@ fn code_says(words: &mut [u32], call: Call) -> Answer {
         5 => calls::start::start_take_snapshot(words, call.a),
         6 => calls::start::start_read_snapshot(words, call.a, call.b, call.c),
         7 => calls::start::start_total(words, call.a, call.b, call.c),
-        _ => calls::step::step(words, call.a),
+        _ => steps::step(words, call.a),
     }
 }
 
@@ -36,12 +36,12 @@ fn code_answers(words: &mut [u32], call: Call) -> Answer {
 fn model_starts(memory: &mut [usize], call: Call, lent: usize, worker: usize) -> Reply {
     let operation = call.operation;
     match operation {
-        3 => operations::starts::v_read(memory, lent, worker, size_of(call.b)),
-        4 => operations::starts::v_cas(memory, lent, worker, size_of(call.b), size_of(call.c), size_of(call.d)),
-        5 => operations::starts::take_snapshot(memory, lent, worker),
-        6 => operations::starts::read_snapshot(memory, lent, worker, size_of(call.b), size_of(call.c)),
-        7 => operations::starts::total(memory, lent, worker, size_of(call.b), size_of(call.c)),
-        _ => operations::steps::step(memory, lent, worker),
+        3 => model_operations::starts::v_read(memory, lent, worker, size_of(call.b)),
+        4 => model_operations::starts::v_cas(memory, lent, worker, size_of(call.b), size_of(call.c), size_of(call.d)),
+        5 => model_operations::starts::take_snapshot(memory, lent, worker),
+        6 => model_operations::starts::read_snapshot(memory, lent, worker, size_of(call.b), size_of(call.c)),
+        7 => model_operations::starts::total(memory, lent, worker, size_of(call.b), size_of(call.c)),
+        _ => model_operations::steps::step(memory, lent, worker),
     }
 }
 

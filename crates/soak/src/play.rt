@@ -5,7 +5,7 @@ use tally::draws::{among, draw, from_one, low, more, narrow, once_in, wide, wide
 use crate::longest;
 use tally::notes::{get as noted, lower, put as note, LIFE, LOGGED, WAITING, WIDE};
 use model::memory::{get, less_one, present_value, COUNTER, ITEMS, NEEDED, PROJECTS, WORKERS};
-use operations::starts::is_resting;
+use model_operations::starts::is_resting;
 
 // Calls before any make.
 const EARLY: u64 = 8;

@@ -16,8 +16,8 @@ use Rattle.definitions.specs.Promises.{Met}
 use Rattle.endings.specs.Stepped.{Steps, Ready, stepped}
 use Rattle.tables.specs.Ranges.{kept-at, kept-is}
 use Rattle.tables.specs.Rules.{has-operation, snapshot-lines, other-lines}
-use Rattle.calls.specs.Facts.{Header, Busy}
-use Rattle.calls.specs.Facts.{ready as make-ready}
+use Rattle.facts.specs.Facts.{Header, Busy}
+use Rattle.facts.specs.Facts.{ready as make-ready}
 use Rattle.definitions.specs.Phases.{row, table, row-of}
 use Rattle.definitions.specs.Lines.{Line, line, no-words, its-value, taken-node, returned-node, tested-node, line-5, line-6, line-34, line-39, line-43, line-45, line-46, line-48, line-50, line-52, total-32, total-34, closing, fetch, help-20, help-21, help-22, idle, lines, line-of-phase}
 

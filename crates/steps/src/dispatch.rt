@@ -11,7 +11,7 @@ use take::line_45;
 use walk::total::{closing_step, line_34, total_32};
 ghost use mathlib.Core.Path.{_≡_};
 ghost use Rattle.endings.specs.Stepped.{Steps};
-ghost use Rattle.calls.specs.Dispatch.{snapshot-line, line-32-of, line-34-of, later-line, by-number, by-row, Later, Fit, Kept, Row-steps};
+ghost use Rattle.steps.specs.Dispatch.{snapshot-line, line-32-of, line-34-of, later-line, by-number, by-row, Later, Fit, Kept, Row-steps};
 
 // takeSnapshot's two lines.
 fn run_snapshot_line(words: &mut [u32], items_at: usize, nodes_at: usize, w: usize, row: PhaseRow) -> Answer

@@ -1,4 +1,5 @@
 // One step of a worker.
+pub mod dispatch;
 use crate::dispatch::run_row;
 use definitions::{Answer, PhaseRow};
 use endings::refuse;
@@ -15,8 +16,8 @@ ghost use Rattle.definitions.specs.Damage.{inside-item, item-damaged};
 ghost use Rattle.definitions.specs.Calls.{outcome, stepping};
 ghost use Rattle.definitions.specs.Calls.Call.{step};
 ghost use Rattle.definitions.specs.Promises.{Met, Done};
-ghost use Rattle.calls.specs.Dispatch.{Fit};
-ghost use Rattle.calls.specs.Facts.{Header, Busy, busy-step};
+ghost use Rattle.steps.specs.Dispatch.{Fit};
+ghost use Rattle.facts.specs.Facts.{Header, Busy, busy-step};
 
 // The item that a running operation is inside of, where it is inside of one.
 fn its_item_is_damaged(words: &[u32], items_at: usize, nodes_at: usize, w: usize, row: PhaseRow) -> bool

@@ -35,7 +35,7 @@ fn carry_out(words: &mut [u32], frame: Frame) -> Answer
         Frame::TakeSnapshot { worker } => calls::start::start_take_snapshot(words, worker),
         Frame::ReadSnapshot { worker, item, handle } => calls::start::start_read_snapshot(words, worker, item, handle),
         Frame::Total { worker, project, handle } => calls::start::start_total(words, worker, project, handle),
-        Frame::Step { worker } => calls::step::step(words, worker),
+        Frame::Step { worker } => steps::step(words, worker),
         Frame::Bad => Answer { code: 29, value: 0, steps: 0 },
     }
 }

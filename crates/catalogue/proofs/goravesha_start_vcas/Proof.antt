@@ -1,4 +1,4 @@
-use Rattle.calls.specs.Refusals.{telling}
+use Rattle.facts.specs.Refusals.{telling}
 use borrow.Author.Needs.{needs}
 use Rattle.catalogue.proofs.goravesha_start_vcas.Statement.{statement}
 use Rattle.catalogue.proofs.goravesha_start_vcas.Tie as tie

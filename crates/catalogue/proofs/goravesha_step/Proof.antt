@@ -1,10 +1,10 @@
-use Rattle.calls.specs.Refusals.{telling}
+use Rattle.facts.specs.Refusals.{telling}
 use borrow.Author.Needs.{needs}
 use Rattle.catalogue.proofs.goravesha_step.Statement.{statement}
 use Rattle.catalogue.proofs.goravesha_step.Tie as tie
 use Rattle.catalogue.proofs.goravesha_step.Reads as reads
 use Rattle.catalogue.proofs.goravesha_step.Lts as lts
-use Rattle.calls.proofs.step.step.Reads as step-reads
+use Rattle.steps.proofs.step.Reads as step-reads
 
 -- src/lib.rt:78:9
 step-requires : tie.Need-step-requires

@@ -7,45 +7,45 @@ use native.Mathlib.Omega.{arith}
 use borrow.Author.Tests.{eq-eqb, ne-eqb, lt-ltb, le-ltb, le-leb, lt-leb}
 use Rattle.definitions.specs.Cells.{cells-at, cells-of, items-at, nodes-at}
 use Rattle.endings.specs.Laws.{met-if, met-else, refuses}
-use Rattle.calls.specs.Refusals.{done}
-use Rattle.calls.specs.Facts.{header-sound, item-there, can-take-at}
-use Rattle.calls.specs.Dispatch.{fit, row-operation, row-snapshot, line-tied}
+use Rattle.facts.specs.Refusals.{done}
+use Rattle.facts.specs.Facts.{header-sound, item-there, can-take-at}
+use Rattle.steps.specs.Dispatch.{fit, row-operation, row-snapshot, line-tied}
 use Rattle.definitions.specs.Calls.{outcome}
 use borrow.Author.Needs.{needs}
-use Rattle.calls.proofs.step.step.Statement.{statement}
-use Rattle.calls.proofs.step.step.Tie as tie
-use Rattle.calls.proofs.step.step.Reads as reads
-use Rattle.calls.proofs.step.step.Lts as lts
-use Rattle.calls.proofs.step.step_sound.Reads as step-sound-reads
+use Rattle.steps.proofs.step.Statement.{statement}
+use Rattle.steps.proofs.step.Tie as tie
+use Rattle.steps.proofs.step.Reads as reads
+use Rattle.steps.proofs.step.Lts as lts
+use Rattle.steps.proofs.step_sound.Reads as step-sound-reads
 use Rattle.endings.proofs.refuse.Reads as refuse-reads
 use Rattle.tables.proofs.damage.header_is_damaged.Reads as header-is-damaged-reads
 
--- src/step.rt:71:8
+-- src/lib.rt:72:8
 header-is-damaged-requires : tie.Need-header-is-damaged-requires
 header-is-damaged-requires c κs = search needs
 
--- src/step.rt:72:9
+-- src/lib.rt:73:9
 refuse-requires : tie.Need-refuse-requires
 refuse-requires c κs = search needs
 
--- src/step.rt:72:9
+-- src/lib.rt:73:9
 same-length : tie.Need-same-length
 same-length c = search needs
 
--- src/step.rt:72:9
+-- src/lib.rt:73:9
 returns : tie.Need-returns
 unfolding outcome
 returns c = done (met-if _ (sym (c .before .before .header-is-damaged .ensures) ∙ c .before .if1 .taken) (refuses 2 (c .refuse .ensures)))
 
--- src/step.rt:74:5
+-- src/lib.rt:75:5
 step-sound-requires : tie.Need-step-sound-requires
 step-sound-requires c κs = header-sound _ (sym (c .before .before .header-is-damaged .ensures) ∙ c .before .if1 .left)
 
--- src/step.rt:68:1
+-- src/lib.rt:69:1
 same-length-2 : tie.Need-same-length-2
 same-length-2 c = search needs
 
--- src/step.rt:68:1
+-- src/lib.rt:69:1
 returns-2 : tie.Need-returns-2
 unfolding outcome
 returns-2 c = done (met-else _ (sym (c .before .before .before .before .before .header-is-damaged .ensures) ∙ c .before .before .before .before .if1 .left) (c .before .before .step-sound .ensures))

@@ -12,7 +12,7 @@ use Rattle.calls.proofs.start.start_take_snapshot.Reads as start-take-snapshot-
 use Rattle.calls.proofs.start.start_total.Reads as start-total-reads
 use Rattle.calls.proofs.start.start_vcas.Reads as start-vcas-reads
 use Rattle.calls.proofs.start.start_vread.Reads as start-vread-reads
-use Rattle.calls.proofs.step.step.Reads as step-reads
+use Rattle.steps.proofs.step.Reads as step-reads
 
 -- src/lib.rt:25:23
 enum-known-frame : tie.Need-enum-known-frame

@@ -10,7 +10,7 @@ use Rattle.definitions.specs.Cells.{needed}
 use Rattle.definitions.specs.Damage.{any-of, sizes-outside}
 use Rattle.definitions.specs.Calls.{outcome, making}
 use Rattle.tables.specs.Ranges.{some-of}
-use Rattle.calls.specs.Refusals.{done-if, done-else}
+use Rattle.facts.specs.Refusals.{done-if, done-else}
 use Rattle.calls.specs.Zeros.{sizes-written}
 use native.Mathlib.Omega.{arith}
 use lib.ListN.{length-set}

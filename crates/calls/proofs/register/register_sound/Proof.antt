@@ -7,9 +7,8 @@ use native.Mathlib.Omega.{arith}
 use borrow.Author.Tests.{eq-eqb, ne-eqb, lt-ltb, le-ltb, le-leb, lt-leb}
 use Rattle.definitions.specs.Cells.{cells-at, cells-of, items-at, nodes-at}
 use Rattle.endings.specs.Laws.{met-if, met-else, refuses}
-use Rattle.calls.specs.Refusals.{done}
-use Rattle.calls.specs.Facts.{header-sound, item-there, can-take-at}
-use Rattle.calls.specs.Dispatch.{fit, row-operation, row-snapshot, line-tied}
+use Rattle.facts.specs.Refusals.{done}
+use Rattle.facts.specs.Facts.{header-sound, item-there, can-take-at}
 use Rattle.endings.specs.Laws.{outside-is, taken-fits}
 use Rattle.definitions.specs.Lines.{no-node, node-to-take}
 use Rattle.definitions.specs.Calls.{registering}

@@ -7,7 +7,7 @@ use borrow.Author.Tests.{le-leb, lt-leb}
 use Rattle.definitions.specs.Cells.{cells-of}
 use Rattle.definitions.specs.Phases.{row-of}
 use Rattle.definitions.specs.Damage.{header-damaged, running-damaged}
-use Rattle.calls.specs.Facts.{Header, header-sound}
+use Rattle.facts.specs.Facts.{Header, header-sound}
 use Rattle.calls.specs.Starts.{busy-held, idle-free}
 use borrow.Author.Needs.{needs}
 use Rattle.calls.proofs.start.is_held.Statement.{statement}

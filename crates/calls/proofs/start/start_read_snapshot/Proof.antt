@@ -10,8 +10,8 @@ use Rattle.definitions.specs.Answers.{Outcome, Refusal, _⇒_, accepts}
 use Rattle.definitions.specs.Cells.{Cells, cells-at, cells-of, items-at, nodes-at, record-of, birth, items}
 use Rattle.definitions.specs.Damage.{bad-value, bad-handle}
 use Rattle.endings.specs.Laws.{met-if, met-else, refuses}
-use Rattle.calls.specs.Refusals.{done, met-first, met-past, worker-refusals}
-use Rattle.calls.specs.Facts.{Header, header-sound}
+use Rattle.facts.specs.Refusals.{done, met-first, met-past, worker-refusals}
+use Rattle.facts.specs.Facts.{Header, header-sound}
 use Rattle.calls.specs.Starts.{free, held, here, later, header-there, worker-there, registered-item}
 use Rattle.definitions.specs.Calls.{outcome, starting-read-snapshot, sound-item}
 use borrow.Author.Needs.{needs}

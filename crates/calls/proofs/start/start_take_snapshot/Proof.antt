@@ -7,8 +7,8 @@ use native.Mathlib.Omega.{arith}
 use borrow.Author.Tests.{eq-eqb, ne-eqb, lt-ltb, le-ltb, le-leb, lt-leb}
 use Rattle.definitions.specs.Cells.{cells-at, cells-of, items-at, nodes-at, record-of}
 use Rattle.endings.specs.Laws.{met-if, met-else, refuses}
-use Rattle.calls.specs.Refusals.{done, met-first, met-past, worker-refusals}
-use Rattle.calls.specs.Facts.{Header, header-sound}
+use Rattle.facts.specs.Refusals.{done, met-first, met-past, worker-refusals}
+use Rattle.facts.specs.Facts.{Header, header-sound}
 use Rattle.calls.specs.Starts.{free, held, here, later, header-there, worker-there, registered-item}
 use Rattle.definitions.specs.Answers.{accepts}
 use Rattle.definitions.specs.Calls.{outcome, starting-take-snapshot}

@@ -4,13 +4,13 @@ use borrow.Author.Tests.{eq-eqb}
 use Rattle.definitions.specs.Cells.{cells-at}
 use Rattle.endings.specs.Laws.{met-if, met-else, refuses}
 use Rattle.tables.specs.Ranges.{kept-at}
-use Rattle.calls.specs.Facts.{node-kept, new-node-kept, item-there}
-use Rattle.calls.specs.Dispatch.{kept-told, nothing-kept, at-later, at-rest, rest-kept}
+use Rattle.facts.specs.Facts.{node-kept, new-node-kept, item-there}
+use Rattle.steps.specs.Dispatch.{kept-told, nothing-kept, at-later, at-rest, rest-kept}
 use borrow.Author.Needs.{needs}
-use Rattle.calls.proofs.dispatch.run_later_line.Statement.{statement}
-use Rattle.calls.proofs.dispatch.run_later_line.Tie as tie
-use Rattle.calls.proofs.dispatch.run_later_line.Reads as reads
-use Rattle.calls.proofs.dispatch.run_later_line.Lts as lts
+use Rattle.steps.proofs.dispatch.run_later_line.Statement.{statement}
+use Rattle.steps.proofs.dispatch.run_later_line.Tie as tie
+use Rattle.steps.proofs.dispatch.run_later_line.Reads as reads
+use Rattle.steps.proofs.dispatch.run_later_line.Lts as lts
 use Rattle.change.proofs.line_43.Reads as line-43-reads
 use Rattle.take.proofs.line_45.Reads as line-45-reads
 use Rattle.change.proofs.line_46.Reads as line-46-reads

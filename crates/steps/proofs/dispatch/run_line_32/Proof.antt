@@ -4,12 +4,12 @@ use lib.ListN.{getD}
 use native.Mathlib.Omega.{arith}
 use borrow.Author.Tests.{eq-eqb, ne-eqb}
 use Rattle.definitions.specs.Cells.{cells-at}
-use Rattle.calls.specs.Facts.{node-kept, new-node-kept, seen-kept, item-there, sum-small}
+use Rattle.facts.specs.Facts.{node-kept, new-node-kept, seen-kept, item-there, sum-small}
 use borrow.Author.Needs.{needs}
-use Rattle.calls.proofs.dispatch.run_line_32.Statement.{statement}
-use Rattle.calls.proofs.dispatch.run_line_32.Tie as tie
-use Rattle.calls.proofs.dispatch.run_line_32.Reads as reads
-use Rattle.calls.proofs.dispatch.run_line_32.Lts as lts
+use Rattle.steps.proofs.dispatch.run_line_32.Statement.{statement}
+use Rattle.steps.proofs.dispatch.run_line_32.Tie as tie
+use Rattle.steps.proofs.dispatch.run_line_32.Reads as reads
+use Rattle.steps.proofs.dispatch.run_line_32.Lts as lts
 use Rattle.help.proofs.fetch_head.Reads as fetch-head-reads
 use Rattle.walk.proofs.total.total_32.Reads as total-32-reads
 

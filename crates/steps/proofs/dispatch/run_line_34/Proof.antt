@@ -1,12 +1,12 @@
 use native.Mathlib.Omega.{arith}
 use borrow.Author.Tests.{eq-eqb}
 use Rattle.definitions.specs.Cells.{cells-at}
-use Rattle.calls.specs.Facts.{node-kept, item-there, sum-small}
+use Rattle.facts.specs.Facts.{node-kept, item-there, sum-small}
 use borrow.Author.Needs.{needs}
-use Rattle.calls.proofs.dispatch.run_line_34.Statement.{statement}
-use Rattle.calls.proofs.dispatch.run_line_34.Tie as tie
-use Rattle.calls.proofs.dispatch.run_line_34.Reads as reads
-use Rattle.calls.proofs.dispatch.run_line_34.Lts as lts
+use Rattle.steps.proofs.dispatch.run_line_34.Statement.{statement}
+use Rattle.steps.proofs.dispatch.run_line_34.Tie as tie
+use Rattle.steps.proofs.dispatch.run_line_34.Reads as reads
+use Rattle.steps.proofs.dispatch.run_line_34.Lts as lts
 use Rattle.walk.proofs.total.line_34.Reads as line-34-reads
 
 -- src/dispatch.rt:45:5

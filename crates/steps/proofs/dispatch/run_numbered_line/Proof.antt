@@ -4,16 +4,16 @@ use borrow.Author.Tests.{eq-eqb}
 use Rattle.definitions.specs.Cells.{cells-at}
 use Rattle.endings.specs.Laws.{met-if, met-else, refuses}
 use Rattle.tables.specs.Ranges.{kept-at}
-use Rattle.calls.specs.Facts.{node-kept, item-there}
-use Rattle.calls.specs.Dispatch.{kept-told, nothing-kept, at-number, later, to-later}
+use Rattle.facts.specs.Facts.{node-kept, item-there}
+use Rattle.steps.specs.Dispatch.{kept-told, nothing-kept, at-number, later, to-later}
 use borrow.Author.Needs.{needs}
-use Rattle.calls.proofs.dispatch.run_numbered_line.Statement.{statement}
-use Rattle.calls.proofs.dispatch.run_numbered_line.Tie as tie
-use Rattle.calls.proofs.dispatch.run_numbered_line.Reads as reads
-use Rattle.calls.proofs.dispatch.run_numbered_line.Lts as lts
-use Rattle.calls.proofs.dispatch.run_later_line.Reads as run-later-line-reads
-use Rattle.calls.proofs.dispatch.run_line_32.Reads as run-line-32-reads
-use Rattle.calls.proofs.dispatch.run_line_34.Reads as run-line-34-reads
+use Rattle.steps.proofs.dispatch.run_numbered_line.Statement.{statement}
+use Rattle.steps.proofs.dispatch.run_numbered_line.Tie as tie
+use Rattle.steps.proofs.dispatch.run_numbered_line.Reads as reads
+use Rattle.steps.proofs.dispatch.run_numbered_line.Lts as lts
+use Rattle.steps.proofs.dispatch.run_later_line.Reads as run-later-line-reads
+use Rattle.steps.proofs.dispatch.run_line_32.Reads as run-line-32-reads
+use Rattle.steps.proofs.dispatch.run_line_34.Reads as run-line-34-reads
 use Rattle.endings.proofs.refuse.Reads as refuse-reads
 use Rattle.help.proofs.fetch_head.Reads as fetch-head-reads
 use Rattle.help.proofs.line_20.Reads as line-20-reads

@@ -7,16 +7,16 @@ use native.Mathlib.Omega.{arith}
 use borrow.Author.Tests.{eq-eqb, ne-eqb, lt-ltb, le-ltb, le-leb, lt-leb}
 use Rattle.definitions.specs.Cells.{cells-at, cells-of, items-at, nodes-at}
 use Rattle.endings.specs.Laws.{met-if, met-else, refuses}
-use Rattle.calls.specs.Refusals.{done}
-use Rattle.calls.specs.Facts.{header-sound, item-there, can-take-at}
-use Rattle.calls.specs.Dispatch.{fit, row-operation, row-snapshot, line-tied}
+use Rattle.facts.specs.Refusals.{done}
+use Rattle.facts.specs.Facts.{header-sound, item-there, can-take-at}
+use Rattle.steps.specs.Dispatch.{fit, row-operation, row-snapshot, line-tied}
 use borrow.Author.Needs.{needs}
-use Rattle.calls.proofs.dispatch.run_row.Statement.{statement}
-use Rattle.calls.proofs.dispatch.run_row.Tie as tie
-use Rattle.calls.proofs.dispatch.run_row.Reads as reads
-use Rattle.calls.proofs.dispatch.run_row.Lts as lts
-use Rattle.calls.proofs.dispatch.run_numbered_line.Reads as run-numbered-line-reads
-use Rattle.calls.proofs.dispatch.run_snapshot_line.Reads as run-snapshot-line-reads
+use Rattle.steps.proofs.dispatch.run_row.Statement.{statement}
+use Rattle.steps.proofs.dispatch.run_row.Tie as tie
+use Rattle.steps.proofs.dispatch.run_row.Reads as reads
+use Rattle.steps.proofs.dispatch.run_row.Lts as lts
+use Rattle.steps.proofs.dispatch.run_numbered_line.Reads as run-numbered-line-reads
+use Rattle.steps.proofs.dispatch.run_snapshot_line.Reads as run-snapshot-line-reads
 
 -- src/dispatch.rt:82:9
 run-snapshot-line-requires : tie.Need-run-snapshot-line-requires

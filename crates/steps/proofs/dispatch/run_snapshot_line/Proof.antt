@@ -3,13 +3,13 @@ use borrow.Author.Tests.{eq-eqb, ne-eqb}
 use Rattle.definitions.specs.Cells.{cells-at}
 use Rattle.endings.specs.Laws.{met-if, met-else, refuses}
 use Rattle.tables.specs.Ranges.{kept-at}
-use Rattle.calls.specs.Facts.{seen-kept}
-use Rattle.calls.specs.Dispatch.{kept-told, nothing-kept}
+use Rattle.facts.specs.Facts.{seen-kept}
+use Rattle.steps.specs.Dispatch.{kept-told, nothing-kept}
 use borrow.Author.Needs.{needs}
-use Rattle.calls.proofs.dispatch.run_snapshot_line.Statement.{statement}
-use Rattle.calls.proofs.dispatch.run_snapshot_line.Tie as tie
-use Rattle.calls.proofs.dispatch.run_snapshot_line.Reads as reads
-use Rattle.calls.proofs.dispatch.run_snapshot_line.Lts as lts
+use Rattle.steps.proofs.dispatch.run_snapshot_line.Statement.{statement}
+use Rattle.steps.proofs.dispatch.run_snapshot_line.Tie as tie
+use Rattle.steps.proofs.dispatch.run_snapshot_line.Reads as reads
+use Rattle.steps.proofs.dispatch.run_snapshot_line.Lts as lts
 use Rattle.endings.proofs.refuse.Reads as refuse-reads
 use Rattle.lines.proofs.snapshot.line_5.Reads as line-5-reads
 use Rattle.lines.proofs.snapshot.line_6.Reads as line-6-reads

@@ -1,0 +1,37 @@
+# Sourced, from the repository's root: how the host's programs are built and run on this machine. The archive and the programs of the kit are for x86-64. On
+# another machine (the kit also proves on Arm) the host's are built by a C compiler for x86-64, and all are run under the emulator that the kit has there.
+if [ "$(uname -m)" = x86_64 ]; then
+  native=yes
+  compiler=${CC:-gcc}
+else
+  native=no
+  compiler=${CC:-x86_64-linux-gnu-gcc}
+  toolchain=${RATTLE_HOME:-$(dirname "$(dirname "$(readlink -f "$(command -v rt)")")")}/on/$(uname -m)/toolchain
+fi
+
+# Says what is missing, and fails, where there is no compiler for x86-64.
+has_compiler() {
+  command -v "$compiler" > /dev/null && return
+  echo "there is no $compiler here: a C compiler for x86-64 (Debian: gcc-x86-64-linux-gnu libc6-dev-amd64-cross, or CC=..)"
+  return 1
+}
+
+# wrap FILE COMMAND..: writes FILE, which runs the command with its arguments
+wrap() {
+  { echo '#!/bin/sh'; printf 'exec'; printf " '%s'" "${@:2}"; echo ' "$@"'; } > "$1"
+  chmod +x "$1"
+}
+
+# compile_to FILE ARGUMENTS..: builds FILE for x86-64; elsewhere FILE runs FILE.x86-64 under the emulator
+compile_to() {
+  if [ "$native" = yes ]; then "$compiler" "${@:2}" -o "$1"; return; fi
+  "$compiler" "${@:2}" -static -o "$1.x86-64" && wrap "$1" "$toolchain/bin/qemu-x86_64" "$(readlink -f "$1.x86-64")"
+}
+
+# runnable PROGRAM: prints what runs a program of the kit here: itself, or a file that runs it under the emulator
+runnable() {
+  if [ "$native" = yes ]; then echo "$1"; return; fi
+  mkdir -p target/emulated
+  wrap "target/emulated/${1##*/}" "$toolchain/bin/qemu-x86_64" "$toolchain/lib/ld-linux-x86-64.so.2" --library-path "$toolchain/lib" "$(readlink -f "$1")"
+  echo "target/emulated/${1##*/}"
+}
