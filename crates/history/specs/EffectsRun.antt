@@ -250,7 +250,7 @@ module _ (s : Catalogue) (invariant : Invariant s) (run : List Note) (A : Agrees
       x : Note
       x = Notes.stepped w (line-number ph) (phase-deed (s .memory) ph) (ending (line (s .now) (s .memory) ph .comes))
       mine : PhaseTraced (s .memory) run o ph
-      mine = let k : WorkerTraced (s .memory) run (busy o l ph) = subst (λ (y : Worker). WorkerTraced (s .memory) run y) is (T .workers w) in k
+      mine = let k : WorkerTraced (s .memory) run (busy o l ph) = subst (λ (y : Worker). WorkerTraced (s .memory) run y) is (T .workers w) in k .0
       found-deed : Matches (s .memory) run o does (line-number ph) (phase-deed (s .memory) ph)
       found-deed = matches (s .now) o (s .memory) run ph mine
       stamps-last : ledger run .current w ≡ o

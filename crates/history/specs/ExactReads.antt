@@ -14,8 +14,7 @@ use Rattle.history.specs.Definition1.{Operation, read-snapshot}
 use Rattle.history.specs.Notes.{Note, ledger, Effect, time, object-at, changes-between}
 use Rattle.history.specs.Effects.{effects}
 use Rattle.history.specs.Notes as Notes
-use Rattle.history.specs.NoteParts.{ending-tag}
-use Rattle.history.specs.Notes.{found-by, read-lines}
+use Rattle.history.specs.Notes.{read-lines}
 use Rattle.history.specs.Statements.{ExactRead}
 use Rattle.history.specs.Machine.{Item, Limits, Place, Catalogue, after-calls}
 use Rattle.history.specs.Facts.{Sees, Read}
@@ -25,7 +24,7 @@ use Rattle.history.specs.OrderList.{effects-rise}
 use Rattle.history.specs.NodeCount.{sum-to}
 use Rattle.history.specs.StepCount.{length-read}
 use Rattle.history.specs.MachineNotes.{machine-notes}
-use Rattle.history.specs.Helps.{found-read}
+use Rattle.history.specs.Helps.{Found, Helps, helped-in, found-read}
 use Rattle.history.specs.LedgerRight.{is-answer, Agrees, agrees}
 use Rattle.history.specs.Trace.{ReadTraced, EndTraced, Traced}
 use Rattle.history.specs.TraceRun.{traced}
@@ -177,21 +176,18 @@ module _ (s : Catalogue) (invariant : Invariant s) (run : List Note) (E : Effect
           at (eq z) = omega (arith, x .got .next (omega (arith, there)), ap (s .memory .item i .published-at) z)
           at (ne z) = omega (arith, x .got .next (omega (arith, there)), published-rises (invariant .kept .memory) i (suc (x .top)) y (omega arith) there)
 
-  exact : (A : Agrees s run) (T' : Traced s run) (o i h x : ℕ) → ledger run .fate o .operation ≡ read-snapshot i h → ledger run .fate o .ending ≡
-      Notes.answers x →
-      ExactRead run (effects run) o i h x
-  exact A T' o i h x w e =
+  exact : (A : Agrees s run) (T' : Traced s run) (H : Helps run) (o i h x : ℕ) → ledger run .fate o .operation ≡ read-snapshot i h →
+      ledger run .fate o .ending ≡ Notes.answers x → ExactRead run (effects run) o i h x
+  exact A T' H o i h x w e =
       record {
         left = s .memory .camera .left-at h; taken = E .memory .snapshots h (R .read .gone);
         born = born-then s invariant run E i (s .memory .camera .left-at h) (R .j) (R .read .sees);
         answer = sym (is-answer (A .fate o) x e) ∙ O .is ∙ R .value ∙ sym (value-seen i (s .memory .camera .left-at h) (R .j) (R .read .sees));
         f = R .read .f; fetched = (R .fetched .valid, R .fetched .executed);
         k = R .read .passed; counted = sym (passed-is i h o _ (R .j) (s .fate o .lines) (R .read)); tbd = R .read .tbd; lines = lines;
-        found = A .helps o (λ z. not-on (sym z ∙ e)) ∙ ap (found-by 0) lines ∙ found-read (R .read .tbd) (R .read .passed);
+        found = found-read run o (R .read .tbd) (R .read .passed) (subst (λ (l : List ℕ). Found run o l) lines (H .found o));
         steps = ap length lines ∙ length-read (R .read .tbd) (R .read .passed) }
     where
-      not-on : Notes.goes-on ≡ Notes.answers x → ⊥
-      not-on z = let y : _≡_ {A = ℕ} 0 1 = ap ending-tag z in omega arith
       done : s .fate o .done ≡ true
       done = A .fate o .answered x e
       R : ReadTraced (s .memory) run o i h (s .fate o .lines) (s .place o)
@@ -207,4 +203,4 @@ pub exact-reads : (limits : Limits) (cs : List Call) (o i h x : ℕ) → ledger 
     ledger (machine-notes limits cs) .fate o .ending ≡ Notes.answers x → ExactRead (machine-notes limits cs) (effects (machine-notes limits cs)) o i
         h x
 exact-reads limits cs = exact (after-calls limits cs) (run-right limits cs) (machine-notes limits cs) (effected limits cs) (agrees limits cs)
-    (traced limits cs)
+    (traced limits cs) (helped-in limits cs)

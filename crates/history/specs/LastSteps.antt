@@ -24,7 +24,7 @@ current-past (Notes.started w' op ∷ past) w =
       (λ e. omega (arith, current-past past w))
 current-past (Notes.stepped w' k d e ∷ past) w = omega (arith, current-past past w)
 
-named-past : (run : List Note) (o : ℕ) {line t : ℕ} {d : Deed} → Executed run o line d t → o < length run
+pub named-past : (run : List Note) (o : ℕ) {line t : ℕ} {d : Deed} → Executed run o line d t → o < length run
 named-past run o {line} {t} {d} e =
     omega (arith, current-past (e .past) (e .w), e .its, noted-past (Notes.stepped (e .w) line d (e .e)) (e .past) run (e .noted))
 

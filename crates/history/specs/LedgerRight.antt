@@ -9,10 +9,9 @@ use lib.Dec.{T}
 use lib.ListN.{length}
 use Rattle.definitions.specs.Calls.{Call}
 use Rattle.history.specs.Tools.{put, put-all, put-both, put-same, put-other, Same, eq, ne, same?}
-use Rattle.history.specs.Notes.{Note, Fate, Ledger, found-onto, begins, continues, entered, ledger}
+use Rattle.history.specs.Notes.{Note, Fate, Ledger, begins, continues, entered, ledger}
 use Rattle.history.specs.Notes as Notes
 use Rattle.history.specs.NoteParts.{ending-tag, ending-number}
-use Rattle.history.specs.Notes.{found-by}
 use Rattle.history.specs.Machine.{Limits, found, node-to-take, Operation, register, Phase, line-number, Effect, Comes, goes-on, ends-with,
     answers-change, answers, line, Worker, idle, busy, Catalogue, ended, turned-away, settle, affect, tick, is-idle, begun, registered, call, fresh,
     after-calls, first-phase}
@@ -20,7 +19,6 @@ use Rattle.history.specs.Machine as Machine
 use Rattle.history.specs.Places.{InOperation, WorkerRight, Invariant}
 use Rattle.history.specs.Run.{run-right}
 use Rattle.history.specs.MachineNotes.{machine-note, machine-notes, ending, phase-deed, call-cases}
-use Rattle.history.specs.Helps.{next-number, line-found}
 
 -- a fate in the ledger tells what the machine has of that operation
 pub record Tells (g : Fate) (f : Machine.Entry) : Type 0 where
@@ -39,22 +37,16 @@ unanswered t d x e = true≢false (sym (t .answered x e) ∙ d)
 abbrev pub InLedger : Ledger → ℕ → Worker → Type 0
 InLedger l w idle = Unit {0}
 InLedger l w (busy o lines ph) = (l .current w ≡ o) × (l .fate o .lines ≡ lines) × (l .fate o .ending ≡ Notes.goes-on)
-    × (l .fate o .found ≡ found-by (line-number ph) lines)
 
 -- the worker of an operation is in it
 abbrev pub Runs : Catalogue → ℕ → Fate → Type 0
 Runs s o g = (l : List ℕ) × (ph : Phase) × (s .worker (g .worker) ≡ busy o l ph)
-
--- what line 20 found decided the line after it
-abbrev pub Helped : Fate → Type 0
-Helped g = g .ending ≢ Notes.goes-on → g .found ≡ found-by 0 (g .lines)
 
 pub record Agrees (s : Catalogue) (run : List Note) : Type 0 where
   pub now : s .now ≡ length run
   pub fate : (o : ℕ) → Tells (ledger run .fate o) (s .fate o)
   pub worker : (w : ℕ) → InLedger (ledger run) w (s .worker w)
   pub running : (o : ℕ) → ledger run .fate o .ending ≡ Notes.goes-on → Runs s o (ledger run .fate o)
-  pub helps : (o : ℕ) → Helped (ledger run .fate o)
 
 abbrev in-of : Worker → ℕ
 in-of idle = 0
@@ -63,7 +55,7 @@ in-of (busy o l ph) = o
 module _ (s : Catalogue) (invariant : Invariant s) (run : List Note) (A : Agrees s run) where
   after-refusal : Agrees (tick s) (Notes.refused ∷ run)
   unfolding tick ledger entered
-  after-refusal = record { now = ap suc (A .now); fate = A .fate; worker = A .worker; running = A .running; helps = A .helps }
+  after-refusal = record { now = ap suc (A .now); fate = A .fate; worker = A .worker; running = A .running }
 
   in-work : (w o : ℕ) (l : List ℕ) (ph : Phase) → s .worker w ≡ busy o l ph → InOperation (s .now) (s .memory) (s .fate o) (s .place o) w o l ph
   in-work w o l ph e = subst (λ (x : Worker). WorkerRight (s .now) (s .memory) (s .fate) (s .place) w x) e (invariant .workers w)
@@ -74,8 +66,7 @@ module _ (s : Catalogue) (invariant : Invariant s) (run : List Note) (A : Agrees
   stays l' w c idle e f = tt
   stays l' w c (busy o l ph) e f =
       let k : InLedger (ledger run) w (busy o l ph) = subst (λ (x : Worker). InLedger (ledger run) w x) e (A .worker w) in
-      (c ∙ k .0, ap (λ (g : Fate). g .lines) (f o l ph e) ∙ k .1, ap (λ (g : Fate). g .ending) (f o l ph e) ∙ k .2,
-        ap (λ (g : Fate). g .found) (f o l ph e) ∙ k .3)
+      (c ∙ k .0, ap (λ (g : Fate). g .lines) (f o l ph e) ∙ k .1, ap (λ (g : Fate). g .ending) (f o l ph e) ∙ k .2)
 
   -- an operation that a worker is in began before now
   older : (w o : ℕ) (l : List ℕ) (ph : Phase) (g : Fate) → s .worker w ≡ busy o l ph → put (ledger run .fate) (length run) g o ≡ ledger run .fate o
@@ -99,9 +90,7 @@ module _ (s : Catalogue) (invariant : Invariant s) (run : List Note) (A : Agrees
             refused = λ n d e. let z : _≡_ {A = ℕ} 1 2 = ap ending-tag e in absurd (omega arith) });
         worker = λ w. stays _ w refl (s .worker w) refl (λ o l ph e. older w o l ph _ e);
         running = λ o. put-all (λ (o : ℕ) (g : Fate). g .ending ≡ Notes.goes-on → Runs s o g) (ledger run .fate) (length run) _ o
-          (λ e q. let z : _≡_ {A = ℕ} 1 0 = ap ending-tag q in absurd (omega arith)) (λ e. A .running o);
-        helps = λ o. put-all (λ (o : ℕ) (g : Fate). Helped g) (ledger run .fate) (length run) _ o
-          (λ e q. refl) (λ e. A .helps o) }
+          (λ e q. let z : _≡_ {A = ℕ} 1 0 = ap ending-tag q in absurd (omega arith)) (λ e. A .running o) }
 
   after-start : (w : ℕ) (op : Operation) → T (not (not (is-idle (s .worker w)))) → Agrees (tick (begun s w op)) (Notes.started w op ∷ run)
   unfolding tick ledger entered begun
@@ -116,9 +105,7 @@ module _ (s : Catalogue) (invariant : Invariant s) (run : List Note) (A : Agrees
         running = λ o. put-all (λ (o : ℕ) (g : Fate). g .ending ≡ Notes.goes-on → Runs (begun s w op) o g) (ledger run .fate) (length run) _ o
           (λ e q. ([], first-phase (s .memory) op, put-same (s .worker) w here w refl
             ∙ ap (λ (o : ℕ). busy o [] (first-phase (s .memory) op)) (A .now ∙ sym e)))
-          (λ e q. still o (A .running o q));
-        helps = λ o. put-all (λ (o : ℕ) (g : Fate). Helped g) (ledger run .fate) (length run) _ o
-          (λ e q. absurd (q refl)) (λ e. A .helps o) }
+          (λ e q. still o (A .running o q)) }
     where
       here : Worker
       here = busy (s .now) [] (first-phase (s .memory) op)
@@ -130,8 +117,7 @@ module _ (s : Catalogue) (invariant : Invariant s) (run : List Note) (A : Agrees
       L' = ledger (Notes.started w op ∷ run)
       at : (w' : ℕ) → Same w' w → InLedger L' w' (put (s .worker) w here w')
       at w' (eq e) = subst (λ (x : Worker). InLedger L' w' x) (sym (put-same (s .worker) w here w' e))
-        (put-same (ledger run .current) w (length run) w' e ∙ sym (A .now), ap (λ (g : Fate). g .lines) new, ap (λ (g : Fate). g .ending) new,
-          ap (λ (g : Fate). g .found) new)
+        (put-same (ledger run .current) w (length run) w' e ∙ sym (A .now), ap (λ (g : Fate). g .lines) new, ap (λ (g : Fate). g .ending) new)
         where
           new : put (ledger run .fate) (length run) (begins op w Notes.goes-on (length run)) (s .now) ≡ begins op w Notes.goes-on (length run)
           new = put-same (ledger run .fate) (length run) _ (s .now) (A .now)
@@ -143,16 +129,16 @@ module _ (s : Catalogue) (invariant : Invariant s) (run : List Note) (A : Agrees
     its : InLedger (ledger run) w (busy o l ph)
     its = subst (λ (x : Worker). InLedger (ledger run) w x) is (A .worker w)
 
-    abbrev new : Notes.Deed → Notes.Ending → Fate
-    new d e = continues (ledger run .fate o) (line-number ph) d e (length run)
+    abbrev new : Notes.Ending → Fate
+    new e = continues (ledger run .fate o) (line-number ph) e (length run)
 
-    abbrev after : Notes.Deed → Notes.Ending → Ledger
-    after d e = record { fate = put (ledger run .fate) o (new d e); current = ledger run .current }
+    abbrev after : Notes.Ending → Ledger
+    after e = record { fate = put (ledger run .fate) o (new e); current = ledger run .current }
 
     -- the entry of the step, whose operation is o
-    entry : (d : Notes.Deed) (e : Notes.Ending) → ledger (Notes.stepped w (line-number ph) d e ∷ run) ≡ after d e
+    entry : (d : Notes.Deed) (e : Notes.Ending) → ledger (Notes.stepped w (line-number ph) d e ∷ run) ≡ after e
     unfolding ledger entered
-    entry d e = ap (λ (c : ℕ). record { fate = put (ledger run .fate) c (continues (ledger run .fate c) (line-number ph) d e (length run));
+    entry d e = ap (λ (c : ℕ). record { fate = put (ledger run .fate) c (continues (ledger run .fate c) (line-number ph) e (length run));
         current = ledger run .current }) (its .0)
 
     lines-are : line-number ph ∷ ledger run .fate o .lines ≡ line-number ph ∷ l
@@ -163,12 +149,12 @@ module _ (s : Catalogue) (invariant : Invariant s) (run : List Note) (A : Agrees
     apart w' o' l' ph' e d z =
         d (sym (in-work w' o' l' ph' e .worker) ∙ ap (λ (q : ℕ). s .fate q .worker) z ∙ in-work w o l ph is .worker)
 
-    others : (d : Notes.Deed) (e : Notes.Ending) (w' : ℕ) → w' ≢ w → InLedger (after d e) w' (s .worker w')
-    others d e w' differ = stays (after d e) w' refl (s .worker w') refl
-        (λ o' l' ph' z. put-other (ledger run .fate) o (new d e) o' (apart w' o' l' ph' z differ))
+    others : (e : Notes.Ending) (w' : ℕ) → w' ≢ w → InLedger (after e) w' (s .worker w')
+    others e w' differ = stays (after e) w' refl (s .worker w') refl
+        (λ o' l' ph' z. put-other (ledger run .fate) o (new e) o' (apart w' o' l' ph' z differ))
 
-    idle-after : (d : Notes.Deed) (e : Notes.Ending) (w' : ℕ) → InLedger (after d e) w' (put (s .worker) w idle w')
-    idle-after d e w' = put-all (λ (w' : ℕ) (x : Worker). InLedger (after d e) w' x) (s .worker) w idle w' (λ z. tt) (others d e w')
+    idle-after : (e : Notes.Ending) (w' : ℕ) → InLedger (after e) w' (put (s .worker) w idle w')
+    idle-after e w' = put-all (λ (w' : ℕ) (x : Worker). InLedger (after e) w' x) (s .worker) w idle w' (λ z. tt) (others e w')
 
     -- another operation is run by another worker
     still : (y : Worker) (q : ℕ) → q ≢ o → Runs s q (ledger run .fate q) → (l' : List ℕ) × (ph' : Phase) ×
@@ -176,87 +162,72 @@ module _ (s : Catalogue) (invariant : Invariant s) (run : List Note) (A : Agrees
     still y q d (l', ph', e) =
         (l', ph', put-other (s .worker) w y (ledger run .fate q .worker) (λ z. d (ap in-of (sym e ∙ ap (s .worker) z ∙ is))) ∙ e)
 
-    ended-tells : (d : Notes.Deed) (x : ℕ) → Tells (new d (Notes.answers x)) (ended (s .fate o) x (s .now) (line-number ph ∷ l))
+    ended-tells : (x : ℕ) → Tells (new (Notes.answers x)) (ended (s .fate o) x (s .now) (line-number ph ∷ l))
     unfolding ended
-    ended-tells d x =
+    ended-tells x =
         record { operation = A .fate o .operation; worker = A .fate o .worker; done = λ d. (refl, lines-are, sym (A .now)); answered = λ x e. refl;
           refused = λ n d e. let z : _≡_ {A = ℕ} 1 2 = ap ending-tag e in absurd (omega arith) }
 
-    refused-tells : (d : Notes.Deed) (n : ℕ) → Tells (new d (Notes.ends-with n)) (turned-away (s .fate o) n (s .now) (line-number ph ∷ l))
+    refused-tells : (n : ℕ) → Tells (new (Notes.ends-with n)) (turned-away (s .fate o) n (s .now) (line-number ph ∷ l))
     unfolding turned-away
-    refused-tells d n =
+    refused-tells n =
         record { operation = A .fate o .operation; worker = A .fate o .worker; done = λ d. absurd (true≢false (sym d));
           answered = λ x e. let z : _≡_ {A = ℕ} 2 1 = ap ending-tag e in absurd (omega arith);
           refused = λ n' d e. (ap ending-number e, lines-are) }
 
-    running-tells : (d : Notes.Deed) → Tells (new d Notes.goes-on) (s .fate o)
-    running-tells d =
+    running-tells : Tells (new Notes.goes-on) (s .fate o)
+    running-tells =
         record { operation = A .fate o .operation; worker = A .fate o .worker; done = λ d. absurd (true≢false (sym d ∙ in-work w o l ph is .unset));
           answered = λ x e. let z : _≡_ {A = ℕ} 0 1 = ap ending-tag e in absurd (omega arith);
           refused = λ n d e. let z : _≡_ {A = ℕ} 0 2 = ap ending-tag e in absurd (omega arith) }
 
     -- both tables get a new fate at o
-    both : (d : Notes.Deed) (e : Notes.Ending) (f : Machine.Entry) → Tells (new d e) f → (q : ℕ) →
-        Tells (put (ledger run .fate) o (new d e) q) (put (s .fate) o f q)
-    both d e f t q = put-both (λ (q : ℕ) (g : Fate) (f : Machine.Entry). Tells g f) (ledger run .fate) (s .fate) o (new d e) f q (λ z. t)
+    both : (e : Notes.Ending) (f : Machine.Entry) → Tells (new e) f → (q : ℕ) →
+        Tells (put (ledger run .fate) o (new e) q) (put (s .fate) o f q)
+    both e f t q = put-both (λ (q : ℕ) (g : Fate) (f : Machine.Entry). Tells g f) (ledger run .fate) (s .fate) o (new e) f q (λ z. t)
         (λ z. A .fate q)
 
     -- the operation has ended, and the others run on
-    no-longer : (d : Notes.Deed) (e : Notes.Ending) → ending-tag e ≢ 0 → (q : ℕ) → put (ledger run .fate) o (new d e) q .ending ≡ Notes.goes-on →
-        (l' : List ℕ) × (ph' : Phase) × (put (s .worker) w idle (put (ledger run .fate) o (new d e) q .worker) ≡ busy q l' ph')
-    no-longer d e t q =
+    no-longer : (e : Notes.Ending) → ending-tag e ≢ 0 → (q : ℕ) → put (ledger run .fate) o (new e) q .ending ≡ Notes.goes-on →
+        (l' : List ℕ) × (ph' : Phase) × (put (s .worker) w idle (put (ledger run .fate) o (new e) q .worker) ≡ busy q l' ph')
+    no-longer e t q =
         put-all (λ (q : ℕ) (g : Fate). g .ending ≡ Notes.goes-on → (l' : List ℕ) × (ph' : Phase) ×
             (put (s .worker) w idle (g .worker) ≡ busy q l' ph'))
-            (ledger run .fate) o (new d e) q (λ z r. absurd (t (ap ending-tag r))) (λ z r. still idle q z (A .running q r))
-
-    -- what its lines 20 found, where the line that comes next is known
-    abbrev Found : Notes.Deed → ℕ → Type 0
-    Found d next = found-onto d (found-by (line-number ph) l) ≡ found-by next (line-number ph ∷ l)
-
-    found-now : (d : Notes.Deed) (next : ℕ) → Found d next → found-onto d (ledger run .fate o .found) ≡ found-by next (line-number ph ∷ l)
-    found-now d next right = ap (found-onto d) (its .3) ∙ right
-
-    found-told : (d : Notes.Deed) (e : Notes.Ending) → (e ≢ Notes.goes-on → Found d 0) → (q : ℕ) →
-        Helped (ledger (Notes.stepped w (line-number ph) d e ∷ run) .fate q)
-    found-told d e right =
-        subst (λ (l' : Ledger). (q : ℕ) → Helped (l' .fate q)) (sym (entry d e))
-          (λ q. put-all (λ (q : ℕ) (g : Fate). Helped g) (ledger run .fate) o (new d e) q
-            (λ z r. found-now d 0 (right r) ∙ ap (found-by 0) (sym lines-are)) (λ z. A .helps q))
+            (ledger run .fate) o (new e) q (λ z r. absurd (t (ap ending-tag r))) (λ z r. still idle q z (A .running q r))
 
     -- the same, of the ledger with its entry
     idle-told : (d : Notes.Deed) (e : Notes.Ending) (w' : ℕ) → InLedger (ledger (Notes.stepped w (line-number ph) d e ∷ run)) w'
         (put (s .worker) w idle w')
-    idle-told d e = subst (λ (l' : Ledger). (w' : ℕ) → InLedger l' w' (put (s .worker) w idle w')) (sym (entry d e)) (idle-after d e)
+    idle-told d e = subst (λ (l' : Ledger). (w' : ℕ) → InLedger l' w' (put (s .worker) w idle w')) (sym (entry d e)) (idle-after e)
 
     over-told : (d : Notes.Deed) (e : Notes.Ending) → ending-tag e ≢ 0 → (q : ℕ) →
         ledger (Notes.stepped w (line-number ph) d e ∷ run) .fate q .ending ≡ Notes.goes-on → (l' : List ℕ) × (ph' : Phase)
         × (put (s .worker) w idle (ledger (Notes.stepped w (line-number ph) d e ∷ run) .fate q .worker) ≡ busy q l' ph')
     over-told d e t =
         subst (λ (l' : Ledger). (q : ℕ) → l' .fate q .ending ≡ Notes.goes-on →
-            (l'' : List ℕ) × (ph'' : Phase) × (put (s .worker) w idle (l' .fate q .worker) ≡ busy q l'' ph'')) (sym (entry d e)) (no-longer d e t)
+            (l'' : List ℕ) × (ph'' : Phase) × (put (s .worker) w idle (l' .fate q .worker) ≡ busy q l'' ph'')) (sym (entry d e)) (no-longer e t)
 
-    fate-told : (d : Notes.Deed) (e : Notes.Ending) (f : Machine.Entry) → Tells (new d e) f → (q : ℕ) →
+    fate-told : (d : Notes.Deed) (e : Notes.Ending) (f : Machine.Entry) → Tells (new e) f → (q : ℕ) →
         Tells (ledger (Notes.stepped w (line-number ph) d e ∷ run) .fate q) (put (s .fate) o f q)
-    fate-told d e f t = subst (λ (l' : Ledger). (q : ℕ) → Tells (l' .fate q) (put (s .fate) o f q)) (sym (entry d e)) (both d e f t)
+    fate-told d e f t = subst (λ (l' : Ledger). (q : ℕ) → Tells (l' .fate q) (put (s .fate) o f q)) (sym (entry d e)) (both e f t)
 
-    settled : (d : Notes.Deed) (e : Effect) (u : Comes) → Found d (next-number u) →
+    settled : (d : Notes.Deed) (e : Effect) (u : Comes) →
         Agrees (tick (settle w o (line-number ph ∷ l) (affect o s e) u)) (Notes.stepped w (line-number ph) d (ending u) ∷ run)
     unfolding tick settle affect
-    settled d e (goes-on ph') right =
+    settled d e (goes-on ph') =
         record {
-          now = ap suc (A .now); helps = found-told d Notes.goes-on (λ z. absurd (z refl));
+          now = ap suc (A .now);
           fate = subst (λ (l' : Ledger). (q : ℕ) → Tells (l' .fate q) (s .fate q)) (sym (entry d Notes.goes-on))
-            (λ q. put-all (λ (q : ℕ) (g : Fate). Tells g (s .fate q)) (ledger run .fate) o (new d Notes.goes-on) q
-              (λ z. subst (λ (q : ℕ). Tells (new d Notes.goes-on) (s .fate q)) (sym z) (running-tells d)) (λ z. A .fate q));
+            (λ q. put-all (λ (q : ℕ) (g : Fate). Tells g (s .fate q)) (ledger run .fate) o (new Notes.goes-on) q
+              (λ z. subst (λ (q : ℕ). Tells (new Notes.goes-on) (s .fate q)) (sym z) running-tells) (λ z. A .fate q));
           worker = subst (λ (l' : Ledger). (w' : ℕ) → InLedger l' w' (put (s .worker) w next w')) (sym (entry d Notes.goes-on))
-            (λ w'. put-all (λ (w' : ℕ) (x : Worker). InLedger (after d Notes.goes-on) w' x) (s .worker) w next w'
-              (λ z. (ap (ledger run .current) z ∙ its .0, ap (λ (g : Fate). g .lines) mine ∙ lines-are, ap (λ (g : Fate). g .ending) mine,
-                ap (λ (g : Fate). g .found) mine ∙ found-now d (line-number ph') right))
-              (others d Notes.goes-on w'));
+            (λ w'. put-all (λ (w' : ℕ) (x : Worker). InLedger (after Notes.goes-on) w' x) (s .worker) w next w'
+              (λ z. (ap (ledger run .current) z ∙ its .0, ap (λ (g : Fate). g .lines) mine ∙ lines-are, ap (λ (g : Fate). g .ending) mine))
+              (others Notes.goes-on w'));
           running = subst (λ (l' : Ledger). (q : ℕ) → l' .fate q .ending ≡ Notes.goes-on →
                 (l'' : List ℕ) × (ph'' : Phase) × (put (s .worker) w next (l' .fate q .worker) ≡ busy q l'' ph'')) (sym (entry d Notes.goes-on))
             (λ q. put-all (λ (q : ℕ) (g : Fate). g .ending ≡ Notes.goes-on →
-                (l'' : List ℕ) × (ph'' : Phase) × (put (s .worker) w next (g .worker) ≡ busy q l'' ph'')) (ledger run .fate) o (new d Notes.goes-on) q
+                (l'' : List ℕ) × (ph'' : Phase) × (put (s .worker) w next (g .worker) ≡ busy q l'' ph'')) (ledger run .fate) o (new Notes.goes-on) q
               (λ z r. (line-number ph ∷ l, ph', put-same (s .worker) w next (ledger run .fate o .worker)
                 (A .fate o .worker ∙ in-work w o l ph is .worker)
                 ∙ ap (λ (q : ℕ). busy q (line-number ph ∷ l) ph') (sym z)))
@@ -264,19 +235,19 @@ module _ (s : Catalogue) (invariant : Invariant s) (run : List Note) (A : Agrees
       where
         next : Worker
         next = busy o (line-number ph ∷ l) ph'
-        mine : put (ledger run .fate) o (new d Notes.goes-on) o ≡ new d Notes.goes-on
-        mine = put-same (ledger run .fate) o (new d Notes.goes-on) o refl
-    settled d e (ends-with n) right =
-        record { now = ap suc (A .now); helps = found-told d (Notes.ends-with n) (λ z. right);
-          fate = fate-told d (Notes.ends-with n) _ (refused-tells d n); worker = idle-told d (Notes.ends-with n);
+        mine : put (ledger run .fate) o (new Notes.goes-on) o ≡ new Notes.goes-on
+        mine = put-same (ledger run .fate) o (new Notes.goes-on) o refl
+    settled d e (ends-with n) =
+        record { now = ap suc (A .now);
+          fate = fate-told d (Notes.ends-with n) _ (refused-tells n); worker = idle-told d (Notes.ends-with n);
           running = over-told d (Notes.ends-with n) (omega arith) }
-    settled d e (answers-change x) right =
-        record { now = ap suc (A .now); helps = found-told d (Notes.answers x) (λ z. right);
-          fate = fate-told d (Notes.answers x) _ (ended-tells d x); worker = idle-told d (Notes.answers x);
+    settled d e (answers-change x) =
+        record { now = ap suc (A .now);
+          fate = fate-told d (Notes.answers x) _ (ended-tells x); worker = idle-told d (Notes.answers x);
           running = over-told d (Notes.answers x) (omega arith) }
-    settled d e (answers x τ j) right =
-        record { now = ap suc (A .now); helps = found-told d (Notes.answers x) (λ z. right);
-          fate = fate-told d (Notes.answers x) _ (ended-tells d x); worker = idle-told d (Notes.answers x);
+    settled d e (answers x τ j) =
+        record { now = ap suc (A .now);
+          fate = fate-told d (Notes.answers x) _ (ended-tells x); worker = idle-told d (Notes.answers x);
           running = over-told d (Notes.answers x) (omega arith) }
 
 call-agrees : (s : Catalogue) (run : List Note) → Invariant s → Agrees s run → (c : Call) → Agrees (call s c) (machine-note s c ∷ run)
@@ -287,12 +258,12 @@ call-agrees s run invariant A =
       (λ v z p. after-register s invariant run A v z (found (node-to-take (s .memory))))
       (λ w op p. after-start s invariant run A w op (p .1 .0))
       (λ w o l ph b e. settled s invariant run A w o l ph e (phase-deed (s .memory) ph) (line (s .now) (s .memory) ph .does)
-        (line (s .now) (s .memory) ph .comes) (line-found (s .now) (s .memory) ph l))
+        (line (s .now) (s .memory) ph .comes))
 
 pub agrees : (limits : Limits) (cs : List Call) → Agrees (after-calls limits cs) (machine-notes limits cs)
 unfolding after-calls machine-notes fresh ledger
 agrees limits [] =
-    record { now = refl; worker = λ w. tt; helps = λ o d. refl; running = λ o e. let z : _≡_ {A = ℕ} 2 0 = ap ending-tag e in absurd (omega arith);
+    record { now = refl; worker = λ w. tt; running = λ o e. let z : _≡_ {A = ℕ} 2 0 = ap ending-tag e in absurd (omega arith);
       fate = λ o. record { operation = refl; worker = refl; done = λ d. absurd (true≢false (sym d));
         answered = λ x e. let z : _≡_ {A = ℕ} 2 1 = ap ending-tag e in absurd (omega arith);
         refused = λ n d e. absurd (d (ap ending-number (sym e))) } }

@@ -125,7 +125,6 @@ pub record Fate : Type 0 where
   pub operation : Operation
   pub worker : ℕ
   pub lines : List ℕ       -- the lines that it has executed, the newest first
-  pub found : List Bool    -- what each of its lines 20 found, the newest first: a valid stamp, or TBD
   pub ending : Ending      -- how its latest call left it
   pub at : ℕ               -- and when that was
 
@@ -133,21 +132,11 @@ pub record Ledger : Type 0 where
   pub fate : ℕ → Fate      -- of each operation
   pub current : ℕ → ℕ      -- the operation that each worker was started in last
 
--- what a line 20 found, onto what those before it did
-abbrev pub found-onto : Deed → List Bool → List Bool
-found-onto (fetches i valid) l = l
-found-onto (finds valid) l = valid ∷ l
-found-onto (publishes i v) l = l
-found-onto (stamps i v) l = l
-found-onto (moves h) l = l
-found-onto nothing l = l
-
 -- an operation begins at t, or executes a line at t
 abbrev pub begins : Operation → (w : ℕ) → Ending → (t : ℕ) → Fate
-begins op w e t = record { operation = op; worker = w; lines = []; found = []; ending = e; at = t }
-abbrev pub continues : Fate → (line : ℕ) → Deed → Ending → (t : ℕ) → Fate
-continues f line d e t =
-    record { operation = f .operation; worker = f .worker; lines = line ∷ f .lines; found = found-onto d (f .found); ending = e; at = t }
+begins op w e t = record { operation = op; worker = w; lines = []; ending = e; at = t }
+abbrev pub continues : Fate → (line : ℕ) → Ending → (t : ℕ) → Fate
+continues f line e t = record { operation = f .operation; worker = f .worker; lines = line ∷ f .lines; ending = e; at = t }
 
 -- the entry of a call at t
 unfoldable pub entered : ℕ → Note → Ledger → Ledger
@@ -155,7 +144,7 @@ entered t refused l = l
 entered t (registered i v s) l = record { fate = put (l .fate) t (begins (register i v s) 0 (answers i) t); current = l .current }
 entered t (started w op) l = record { fate = put (l .fate) t (begins op w goes-on t); current = put (l .current) w t }
 entered t (stepped w line d e) l =
-    record { fate = put (l .fate) (l .current w) (continues (l .fate (l .current w)) line d e t); current = l .current }
+    record { fate = put (l .fate) (l .current w) (continues (l .fate (l .current w)) line e t); current = l .current }
 
 -- where no operation was started, an ending stands that none has
 unfoldable pub ledger : List Note → Ledger
@@ -168,11 +157,6 @@ ledger (x ∷ past) = entered (length past) x (ledger past)
 abbrev pub helped : Bool → List ℕ → List ℕ
 helped false l = 20 ∷ l
 helped true l = 22 ∷ 21 ∷ 20 ∷ l
-
--- What the lines 20 among them found, with the line that comes next: TBD where that is 21, else a valid stamp.
-abbrev pub found-by : (next : ℕ) → List ℕ → List Bool
-found-by next [] = []
-found-by next (line ∷ l) = cond (eqb line 20) (not (eqb next 21) ∷ found-by line l) (found-by line l)
 
 -- Those of a whole read of a snapshot: line 34 passed so many versions, and answered at the next.
 abbrev pub read-lines : Bool → ℕ → List ℕ

@@ -6,7 +6,7 @@ use Rattle.history.specs.Machine.{Limits}
 use Rattle.history.specs.MachineNotes.{machine-notes}
 use Rattle.history.specs.Statements.{Promises}
 use Rattle.history.specs.Effects.{effects}
-use Rattle.history.specs.LedgerRight.{agrees}
+use Rattle.history.specs.Helps.{helps}
 use Rattle.history.specs.NotesOrder.{notes-order}
 use Rattle.history.specs.ExactReads.{exact-reads}
 use Rattle.history.specs.ExactTotals.{exact-totals, total-most}
@@ -20,4 +20,4 @@ promised limits few-items few-nodes cs =
       one-order = notes-order limits cs; reads = exact-reads limits cs; totals = exact-totals limits cs; total-steps = total-most limits few-items few-nodes cs;
       whole-lines = whole-lines limits cs; refused-lines = refused-lines limits cs; progress = progress limits few-items few-nodes cs;
           ordered = ordered limits cs;
-      apart = apart limits cs; leaves-once = leaves-once limits cs; in-turn = in-turn limits cs; helps = agrees limits cs .helps; exactly = exactly limits cs }
+      apart = apart limits cs; leaves-once = leaves-once limits cs; in-turn = in-turn limits cs; helps = helps limits cs; exactly = exactly limits cs }

@@ -10,8 +10,8 @@ use lib.ListN.{length, getD}
 use Rattle.definitions.specs.Calls.{Call, outcome}
 use Rattle.cells.specs.WellFormed.{Well-formed}
 use Rattle.history.specs.Definition1.{Operation, register, v-read, v-cas, take-snapshot, read-snapshot, total, total-of, Follows, Legal}
-use Rattle.history.specs.Notes.{Deed, fetches, publishes, stamps, moves, nothing, Ending, goes-on, answers, ends-with, Note, registered,
-    started, stepped, start-of, note, Run-call, damaged-code, Fate, ledger, helped, found-by, read-lines, WholeLines, RefusedLines, most-steps, Effect,
+use Rattle.history.specs.Notes.{Deed, fetches, finds, publishes, stamps, moves, nothing, Ending, goes-on, answers, ends-with, Note, registered,
+    started, stepped, start-of, note, Run-call, damaged-code, Fate, ledger, read-lines, WholeLines, RefusedLines, most-steps, Effect,
     birth, change, snapshot, time, object-at, changes-between}
 
 -- ---- lists and times
@@ -168,7 +168,7 @@ module _ (run : List Note) where
       pub k : ℕ
       pub counted : k ≡ changes-between i left f effects
       pub tbd : Bool
-      pub found : fate-of o .found ≡ not tbd ∷ []
+      pub found : (t : ℕ) × Executed o 20 (finds (not tbd)) t
       pub lines : fate-of o .lines ≡ read-lines tbd k
       pub steps : length (fate-of o .lines) ≡ k + cond tbd 5 3
 
@@ -221,8 +221,9 @@ module _ (run : List Note) where
       -- the lines of all others, and of those that ended with number 11 or 12
       pub whole-lines : (o x : ℕ) → Finished o x → WholeLines (fate-of o .operation) (fate-of o .lines)
       pub refused-lines : (o n : ℕ) → n ≢ 0 → fate-of o .ending ≡ ends-with n → RefusedLines n (fate-of o .operation) (fate-of o .lines)
-      -- what line 20 found decides its help, in these and in all others: line 21 comes next exactly where it found TBD
-      pub helps : (o : ℕ) → fate-of o .ending ≢ goes-on → fate-of o .found ≡ found-by 0 (fate-of o .lines)
+      -- what line 20 found decides its help: line 21 is the operation's next step exactly where it found TBD
+      pub helps : (o t t' line : ℕ) (d : Deed) (valid : Bool) → Executed o 20 (finds valid) t → Executed o line d t' → Next (Steps o) t t' →
+        (line ≡ 21) ↔ (valid ≡ false)
       -- an operation that goes on is its worker's latest, and has not taken the most steps that it may take: one that is stepped so often has ended
       pub progress : (o : ℕ) → fate-of o .ending ≡ goes-on →
         (ledger run .current (fate-of o .worker) ≡ o) × (length (fate-of o .lines) < most-steps (fate-of o .operation))

@@ -1,10 +1,11 @@
 -- The times that the machine keeps are those of steps in its run: each has its note.
 use mathlib.Core.Path.{_≡_, ap, sym, _∙_}
 use mathlib.Core.Logic.{inl, inr}
-use mathlib.Core.Bool.{Bool, true, false}
+use mathlib.Core.Bool.{Bool, true, false, not}
 use mathlib.Core.List.{List, [], _∷_}
 use Prim.Native.Nat.{ℕ, suc, _≤_, _<_, max}
 use native.Mathlib.Omega.{arith}
+use lib.Dec.{eqb}
 use lib.ListN.{length, getD}
 use Rattle.history.specs.Tools.{Split, split}
 use Rattle.history.specs.Definition1.{Follows}
@@ -13,7 +14,8 @@ use Rattle.history.specs.Notes as Notes
 use Rattle.history.specs.Statements.{Executed}
 use Rattle.history.specs.Machine.{Item, Memory, Operation, register, v-read, v-cas, take-snapshot, read-snapshot, total, Then, then-39,
     then-43, then-48, then-52, then-34, then-total-34, Phase, line-37, line-39, line-41, line-43, line-45, line-46, line-48, line-50, line-51,
-    line-52, line-5, line-6, line-32, line-34, total-32, total-34, closing, line-20, line-21, line-22, Place, observes, Worker, idle, busy, Catalogue}
+    line-52, line-5, line-6, line-32, line-34, total-32, total-34, closing, line-20, line-21, line-22, line-number, Place, observes, Worker, idle,
+    busy, Catalogue}
 use Rattle.history.specs.Facts.{CounterWas, Fetched, Read, MemoryFacts, Later}
 use Rattle.history.specs.Later.{counter-later, fetched-later, read-later}
 
@@ -84,6 +86,25 @@ PhaseTraced m run o (closing q h k u) = Unit {0}
 PhaseTraced m run o (line-20 c j) = ThenTraced m run o c j
 PhaseTraced m run o (line-21 c j) = ThenTraced m run o c j
 PhaseTraced m run o (line-22 c j n r) = ThenTraced m run o c j × ReadAt run o r
+
+-- the latest line that operation o executed, where a line comes next: if it was 20, it found TBD exactly where that is 21
+pub record Latest (run : List Note) (o next line : ℕ) : Type 0 where
+  pub d : Deed
+  pub t : ℕ
+  pub executed : Executed run o line d t
+  pub since : (line' : ℕ) (d' : Deed) (t' : ℕ) → Executed run o line' d' t' → t' ≤ t
+  pub found : line ≡ 20 → d ≡ Notes.finds (not (eqb next 21))
+
+-- the latest of its lines l, if there is one
+abbrev pub LatestOf : List Note → (o next : ℕ) → List ℕ → Type 0
+LatestOf run o next [] = (line : ℕ) (d : Deed) (t : ℕ) → Executed run o line d t → ⊥
+LatestOf run o next (line ∷ l) = Latest run o next line
+
+pub latest-more : (run : List Note) (x : Note) (o next : ℕ) (l : List ℕ) → Foreign run x o → LatestOf run o next l → LatestOf (x ∷ run) o next l
+latest-more run x o next [] z k = λ line d t e. k line d t (z line d t e)
+latest-more run x o next (line ∷ l) z k =
+    record { d = k .d; t = k .t; executed = executed-more x (k .executed); since = λ line' d' t' e. k .since line' d' t' (z line' d' t' e);
+      found = k .found }
 
 -- ---- and of an operation that answered
 
@@ -159,7 +180,7 @@ pub record MemoryTraced (m : Memory) (run : List Note) : Type 0 where
 
 abbrev pub WorkerTraced : Memory → List Note → Worker → Type 0
 WorkerTraced m run idle = Unit {0}
-WorkerTraced m run (busy o l ph) = PhaseTraced m run o ph
+WorkerTraced m run (busy o l ph) = PhaseTraced m run o ph × LatestOf run o (line-number ph) l
 
 pub record Traced (s : Catalogue) (run : List Note) : Type 0 where
   pub memory : MemoryTraced (s .memory) run

@@ -1,10 +1,11 @@
 -- After every run, the times that the machine keeps are those of its notes.
 use mathlib.Core.Path.{_≡_, refl, ap, sym, _∙_, subst}
 use mathlib.Core.Logic.{_≢_, _⊎_, inl, inr}
-use mathlib.Core.Bool.{true, false, true≢false}
+use mathlib.Core.Bool.{true, false, not, true≢false}
 use mathlib.Core.List.{List, [], _∷_}
 use Prim.Native.Nat.{ℕ, suc, _≤_, _<_}
 use native.Mathlib.Omega.{arith}
+use lib.Dec.{eqb}
 use lib.ListN.{length}
 use Rattle.definitions.specs.Calls.{Call}
 use Rattle.history.specs.Tools.{put, put-all, put-same, put-other, by-eq}
@@ -23,9 +24,11 @@ use Rattle.history.specs.Places.{ChangeRight, ObserverRight, PlaceRight,
 use Rattle.history.specs.Run.{run-right, registered-later}
 use Rattle.history.specs.MachineNotes.{machine-note, machine-notes, phase-deed, ending, after-step, call-cases}
 use Rattle.history.specs.LedgerRight.{InLedger, Agrees, agrees}
-use Rattle.history.specs.Trace.{PhaseTraced, EndTraced, Stamping, MemoryTraced, WorkerTraced, Traced, Foreign, phase-traced-later, end-later}
-use Rattle.history.specs.TraceStep.{ComesTraced, line-traced}
+use Rattle.history.specs.Trace.{PhaseTraced, EndTraced, Stamping, MemoryTraced, WorkerTraced, Traced, Foreign, executed-past,
+    latest-more, phase-traced-later, end-later}
+use Rattle.history.specs.TraceStep.{ComesTraced, next-number, line-20-found, here, line-traced}
 use Rattle.history.specs.TraceMemory.{executed-inv, traced-more, matches, effect-traced}
+use Rattle.history.specs.LastSteps.{named-past}
 
 -- ---- operations that answered
 
@@ -80,7 +83,8 @@ module _ (s : Catalogue) (invariant : Invariant s) (run : List Note) (A : Agrees
       where
         keep : (y : Worker) → WorkerTraced (s .memory) run y → WorkerTraced m' (x ∷ run) y
         keep idle k = tt
-        keep (busy o l ph) k = phase-traced-later L (invariant .kept .memory) run x now o ph (no-step o) k
+        keep (busy o l ph) k = (phase-traced-later L (invariant .kept .memory) run x now o ph (no-step o) (k .0),
+            latest-more run x o (line-number ph) l (no-step o) (k .1))
 
   old-end : (x : Note) (m' : Memory) → Later (s .now) (s .memory) m' → (q : ℕ) → s .fate q .done ≡ true →
       EndTraced m' (x ∷ run) q (s .fate q .operation) (s .fate q .lines) (s .place q)
@@ -156,7 +160,8 @@ module _ (s : Catalogue) (invariant : Invariant s) (run : List Note) (A : Agrees
         memory = traced-more stay (invariant .kept .memory) run now (T .memory) (Notes.started w op) (λ i j a b. absurd (omega arith))
             (λ i v a b. absurd (omega arith)) (λ i j a b. absurd (omega arith)) (λ i v a b. absurd (omega arith)) (λ h a b. absurd (omega arith));
         workers = λ w'. put-all (λ (w' : ℕ) (y : Worker). WorkerTraced (s .memory) (Notes.started w op ∷ run) y) (s .worker) w _ w'
-            (λ e. first-traced (Notes.started w op) (s .now) op) (λ e. others (Notes.started w op) at (s .memory) stay w');
+            (λ e. (first-traced (Notes.started w op) (s .now) op, λ line d t z. omega (arith, named-past run (s .now) (at (s .now) line d t z), now)))
+            (λ e. others (Notes.started w op) at (s .memory) stay w');
         ends = λ q. put-all (λ (q : ℕ) (f : Entry). f .done ≡ true → EndTraced (s .memory) (Notes.started w op ∷ run) q (f .operation) (f .lines)
             (put (s .place) (s .now) unplaced q)) (s .fate) (s .now) _ q
           (λ e d. absurd (true≢false (sym d)))
@@ -196,7 +201,7 @@ module _ (s : Catalogue) (invariant : Invariant s) (run : List Note) (A : Agrees
     L = effect-later (invariant .kept .memory) o (phase-operation ph) (has-published ph) does (right .does)
 
     mine : PhaseTraced (s .memory) run o ph
-    mine = let k : WorkerTraced (s .memory) run (busy o l ph) = subst (λ (y : Worker). WorkerTraced (s .memory) run y) is (T .workers w) in k
+    mine = let k : WorkerTraced (s .memory) run (busy o l ph) = subst (λ (y : Worker). WorkerTraced (s .memory) run y) is (T .workers w) in k .0
 
     -- another worker is in another operation
     foreign : (d : Deed) (e : Notes.Ending) (w' o' : ℕ) (l' : List ℕ) (ph' : Phase) → w' ≢ w → s .worker w' ≡ busy o' l' ph' →
@@ -215,8 +220,9 @@ module _ (s : Catalogue) (invariant : Invariant s) (run : List Note) (A : Agrees
       where
         keep : (y : Worker) → s .worker w' ≡ y → WorkerTraced (s .memory) run y → WorkerTraced after (this e ∷ run) y
         keep idle q k = tt
-        keep (busy o' l' ph') q k = phase-traced-later L (invariant .kept .memory) run _ now o' ph'
-            (foreign (phase-deed (s .memory) ph) e w' o' l' ph' d q) k
+        keep (busy o' l' ph') q k =
+            (phase-traced-later L (invariant .kept .memory) run _ now o' ph' (foreign (phase-deed (s .memory) ph) e w' o' l' ph' d q) (k .0),
+              latest-more run _ o' (line-number ph') l' (foreign (phase-deed (s .memory) ph) e w' o' l' ph' d q) (k .1))
 
     -- the place of an operation that answered stays
     place-stays : (e : Effect) → Allowed (s .now) o (phase-operation ph) (has-published ph) (s .memory) e → (q : ℕ) → s .fate q .done ≡ true → q ≢ o →
@@ -247,15 +253,20 @@ module _ (s : Catalogue) (invariant : Invariant s) (run : List Note) (A : Agrees
           (matches (s .now) o (s .memory) run ph mine)
 
     after-step-traced : (u : Comes) → ComesTraced after (this (ending u) ∷ run) o (phase-operation ph) (line-number ph ∷ l) u →
+      (line-number ph ≡ 20 → phase-deed (s .memory) ph ≡ Notes.finds (not (eqb (next-number u) 21))) →
       Traced (tick (settle w o (line-number ph ∷ l) (affect o s does) u)) (this (ending u) ∷ run)
     unfolding tick settle affect ended turned-away
-    after-step-traced (goes-on ph') c =
+    after-step-traced (goes-on ph') c found =
         record {
           memory = memory-traced Notes.goes-on;
           workers = λ w'. put-all (λ (w' : ℕ) (y : Worker). WorkerTraced after (this Notes.goes-on ∷ run) y) (s .worker) w
-              (busy o (line-number ph ∷ l) ph') w' (λ e. c) (λ e. others-step Notes.goes-on w' e);
+              (busy o (line-number ph ∷ l) ph') w'
+            (λ e. (c, record { d = phase-deed (s .memory) ph; t = s .now; found = found; since = λ line d t z. omega (arith, executed-past z, now);
+              executed = here (s .now) o w l (s .memory) (invariant .kept .memory) (K .begun) run now cur (line-number ph) (phase-deed (s .memory) ph)
+                Notes.goes-on }))
+            (λ e. others-step Notes.goes-on w' e);
           ends = λ q d. old-ends Notes.goes-on q d (λ e. true≢false (sym d ∙ ap (λ (q : ℕ). s .fate q .done) e ∙ K .unset)) }
-    after-step-traced (ends-with k) c =
+    after-step-traced (ends-with k) c found =
         record {
           memory = memory-traced (Notes.ends-with k);
           workers = λ w'. put-all (λ (w' : ℕ) (y : Worker). WorkerTraced after (this (Notes.ends-with k) ∷ run) y) (s .worker) w idle w' (λ e. tt)
@@ -263,7 +274,7 @@ module _ (s : Catalogue) (invariant : Invariant s) (run : List Note) (A : Agrees
           ends = λ q. put-all (λ (q : ℕ) (f : Entry). f .done ≡ true → EndTraced after (this (Notes.ends-with k) ∷ run) q (f .operation) (f .lines)
               (places q)) (s .fate) o _ q
             (λ e d. absurd (true≢false (sym d))) (λ e d. old-ends (Notes.ends-with k) q d e) }
-    after-step-traced (answers-change x) c =
+    after-step-traced (answers-change x) c found =
         record {
           memory = memory-traced (Notes.answers x);
           workers = λ w'. put-all (λ (w' : ℕ) (y : Worker). WorkerTraced after (this (Notes.answers x) ∷ run) y) (s .worker) w idle w' (λ e. tt)
@@ -273,7 +284,7 @@ module _ (s : Catalogue) (invariant : Invariant s) (run : List Note) (A : Agrees
             (λ e d. subst (λ (op : Operation). EndTraced after (this (Notes.answers x) ∷ run) q op (line-number ph ∷ l) (places q)) (sym (K .operation))
               (subst (λ (q : ℕ). EndTraced after (this (Notes.answers x) ∷ run) q (phase-operation ph) (line-number ph ∷ l) (places q)) (sym e) (c _)))
             (λ e d. old-ends (Notes.answers x) q d e) }
-    after-step-traced (answers x τ j) c =
+    after-step-traced (answers x τ j) c found =
         record {
           memory = memory-traced (Notes.answers x);
           workers = λ w'. put-all (λ (w' : ℕ) (y : Worker). WorkerTraced after (this (Notes.answers x) ∷ run) y) (s .worker) w idle w' (λ e. tt)
@@ -292,6 +303,7 @@ module _ (s : Catalogue) (invariant : Invariant s) (run : List Note) (A : Agrees
     step-traced : Traced (tick (after-step s w o l ph)) (this (ending (line (s .now) (s .memory) ph .comes)) ∷ run)
     step-traced = after-step-traced (line (s .now) (s .memory) ph .comes)
         (line-traced (s .now) o w l (s .memory) (invariant .kept .memory) (K .begun) run now cur ph (K .facts) mine)
+        (line-20-found (s .now) (s .memory) ph)
 
 call-traced : (s : Catalogue) (run : List Note) → Invariant s → Agrees s run → Traced s run → (c : Call) → Traced (call s c) (machine-note s c ∷ run)
 unfolding call

@@ -1,7 +1,7 @@
 -- Each line of Algorithm 1 leaves its note: what the phase after it, or the answer, says of the run.
 use mathlib.Core.Path.{_≡_, refl, ap, sym, _∙_, subst}
 use mathlib.Core.Logic.{inl}
-use mathlib.Core.Bool.{Bool, false, cond, not}
+use mathlib.Core.Bool.{Bool, true, false, cond, not}
 use mathlib.Core.List.{List, _∷_}
 use Prim.Native.Nat.{ℕ, suc, pred, _+_, _≤_, _<_}
 use native.Mathlib.Omega.{arith}
@@ -31,7 +31,54 @@ ComesTraced m run o op l (ends-with n) = Unit {0}
 ComesTraced m run o op l (answers-change x) = (p : Place) → EndTraced m run o op l p
 ComesTraced m run o op l (answers x τ j) = EndTraced m run o op l (observes τ j x)
 
--- by worker w, in operation o, with the lines l before it
+-- ---- what line 20 finds decides which line comes next
+
+-- the line that comes next, or 0
+abbrev pub next-number : Comes → ℕ
+next-number (goes-on ph) = line-number ph
+next-number (ends-with n) = 0
+next-number (answers-change x) = 0
+next-number (answers x τ j) = 0
+
+after-help : (c : Then) (j : ℕ) → eqb (line-number (after c j)) 21 ≡ false
+unfolding after
+after-help (then-39 i f) j = refl
+after-help (then-43 i a b f) j = refl
+after-help (then-48 i a b) j = refl
+after-help (then-52 i a b g) j = refl
+after-help (then-34 i h f) j = refl
+after-help (then-total-34 q h k i u f) j = refl
+
+pub line-20-found : (t : ℕ) (m : Memory) (ph : Phase) → line-number ph ≡ 20 →
+    phase-deed m ph ≡ Notes.finds (not (eqb (next-number (line t m ph .comes)) 21))
+unfolding line
+line-20-found t m (line-37 i) e = absurd (omega arith)
+line-20-found t m (line-39 i f j) e = absurd (omega arith)
+line-20-found t m (line-41 i a b) e = absurd (omega arith)
+line-20-found t m (line-43 i a b f j) e = absurd (omega arith)
+line-20-found t m (line-45 i a b f j) e = absurd (omega arith)
+line-20-found t m (line-46 i a b f j y) e = absurd (omega arith)
+line-20-found t m (line-48 i a b j) e = absurd (omega arith)
+line-20-found t m (line-50 i a b g y) e = absurd (omega arith)
+line-20-found t m (line-51 i a b g) e = absurd (omega arith)
+line-20-found t m (line-52 i a b g j) e = absurd (omega arith)
+line-20-found t m line-5 e = absurd (omega arith)
+line-20-found t m (line-6 c r) e = absurd (omega arith)
+line-20-found t m (line-32 i h) e = absurd (omega arith)
+line-20-found t m (line-34 i h f j x) e = absurd (omega arith)
+line-20-found t m (total-32 q h k i u) e = absurd (omega arith)
+line-20-found t m (total-34 q h k i u f j x) e = absurd (omega arith)
+line-20-found t m (closing q h k u) e = absurd (omega arith)
+line-20-found t m (line-20 c j) e = at (ltb j (m .item (helped-item c) .valid))
+  where
+    at : (b : Bool) → Notes.finds b ≡ Notes.finds (not (eqb (line-number (cond b (after c j) (line-21 c j))) 21))
+    at true = ap (λ (b : Bool). Notes.finds (not b)) (sym (after-help c j))
+    at false = refl
+line-20-found t m (line-21 c j) e = absurd (omega arith)
+line-20-found t m (line-22 c j n r) e = absurd (omega arith)
+
+-- ---- each line, by worker w, in operation o, with the lines l before it
+
 module _ (t o w : ℕ) (l : List ℕ) (m : Memory) (known : MemoryFacts t m) (ot : o < t) (run : List Note) (now : length run ≡ t)
     (cur : ledger run .current w ≡ o) where
   abbrev pub noted : Phase → Next → Note

@@ -87,28 +87,27 @@ helped-object =
 -- ---- what the operations came to: the vCAS answered last, and the readSnapshot at handle 0 answered its value in 3 steps
 
 helped-change : fate-of (told-of helped) 1
-  ≡ record { operation = v-cas 0 1 2; worker = 0; lines = 48 ∷ 20 ∷ 46 ∷ 45 ∷ 43 ∷ 20 ∷ 41 ∷ []; found = true ∷ true ∷ [];
-    ending = answers 1; at = 24 }
+  ≡ record { operation = v-cas 0 1 2; worker = 0; lines = 48 ∷ 20 ∷ 46 ∷ 45 ∷ 43 ∷ 20 ∷ 41 ∷ []; ending = answers 1; at = 24 }
 unfolding ledger entered put
 helped-change = ap (λ (l : List Note). fate-of l 1) helped-notes ∙ refl
 
 helped-helper : fate-of (told-of helped) 7
-  ≡ record { operation = v-read 0; worker = 1; lines = 39 ∷ 22 ∷ 21 ∷ 20 ∷ 37 ∷ []; found = false ∷ []; ending = answers 2; at = 18 }
+  ≡ record { operation = v-read 0; worker = 1; lines = 39 ∷ 22 ∷ 21 ∷ 20 ∷ 37 ∷ []; ending = answers 2; at = 18 }
 unfolding ledger entered put
 helped-helper = ap (λ (l : List Note). fate-of l 7) helped-notes ∙ refl
 
 helped-first : fate-of (told-of helped) 11
-  ≡ record { operation = take-snapshot; worker = 2; lines = 6 ∷ 5 ∷ []; found = []; ending = answers 0; at = 13 }
+  ≡ record { operation = take-snapshot; worker = 2; lines = 6 ∷ 5 ∷ []; ending = answers 0; at = 13 }
 unfolding ledger entered put
 helped-first = ap (λ (l : List Note). fate-of l 11) helped-notes ∙ refl
 
 helped-second : fate-of (told-of helped) 14
-  ≡ record { operation = take-snapshot; worker = 2; lines = 6 ∷ 5 ∷ []; found = []; ending = answers 1; at = 16 }
+  ≡ record { operation = take-snapshot; worker = 2; lines = 6 ∷ 5 ∷ []; ending = answers 1; at = 16 }
 unfolding ledger entered put
 helped-second = ap (λ (l : List Note). fate-of l 14) helped-notes ∙ refl
 
 helped-read : fate-of (told-of helped) 19
-  ≡ record { operation = read-snapshot 0 0; worker = 2; lines = 34 ∷ 20 ∷ 32 ∷ []; found = true ∷ []; ending = answers 2; at = 22 }
+  ≡ record { operation = read-snapshot 0 0; worker = 2; lines = 34 ∷ 20 ∷ 32 ∷ []; ending = answers 2; at = 22 }
 unfolding ledger entered put
 helped-read = ap (λ (l : List Note). fate-of l 19) helped-notes ∙ refl
 

@@ -67,20 +67,17 @@ unfolding effects insert ledger entered put last-published
 lost-effects = ap effects lost-notes ∙ refl
 
 lost-loser : fate-of (told-of lost) 2
-  ≡ record { operation = v-cas 0 1 3; worker = 1; lines = 52 ∷ 20 ∷ 51 ∷ 50 ∷ 46 ∷ 45 ∷ 43 ∷ 20 ∷ 41 ∷ []; found = true ∷ true ∷ [];
-    ending = answers 0; at = 30 }
+  ≡ record { operation = v-cas 0 1 3; worker = 1; lines = 52 ∷ 20 ∷ 51 ∷ 50 ∷ 46 ∷ 45 ∷ 43 ∷ 20 ∷ 41 ∷ []; ending = answers 0; at = 30 }
 unfolding ledger entered put
 lost-loser = ap (λ (l : List Note). fate-of l 2) lost-notes ∙ refl
 
 lost-first : fate-of (told-of lost) 1
-  ≡ record { operation = v-cas 0 1 2; worker = 0; lines = 48 ∷ 22 ∷ 21 ∷ 20 ∷ 46 ∷ 45 ∷ 43 ∷ 20 ∷ 41 ∷ []; found = false ∷ true ∷ [];
-    ending = answers 1; at = 15 }
+  ≡ record { operation = v-cas 0 1 2; worker = 0; lines = 48 ∷ 22 ∷ 21 ∷ 20 ∷ 46 ∷ 45 ∷ 43 ∷ 20 ∷ 41 ∷ []; ending = answers 1; at = 15 }
 unfolding ledger entered put
 lost-first = ap (λ (l : List Note). fate-of l 1) lost-notes ∙ refl
 
 lost-second : fate-of (told-of lost) 16
-  ≡ record { operation = v-cas 0 2 0; worker = 2; lines = 48 ∷ 22 ∷ 21 ∷ 20 ∷ 46 ∷ 45 ∷ 43 ∷ 20 ∷ 41 ∷ []; found = false ∷ true ∷ [];
-    ending = answers 1; at = 25 }
+  ≡ record { operation = v-cas 0 2 0; worker = 2; lines = 48 ∷ 22 ∷ 21 ∷ 20 ∷ 46 ∷ 45 ∷ 43 ∷ 20 ∷ 41 ∷ []; ending = answers 1; at = 25 }
 unfolding ledger entered put
 lost-second = ap (λ (l : List Note). fate-of l 16) lost-notes ∙ refl
 

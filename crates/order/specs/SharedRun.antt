@@ -53,12 +53,12 @@ unfolding effects insert ledger entered put last-published
 shared-effects = ap effects shared-notes ∙ refl
 
 shared-first : fate-of (told-of shared) 1
-  ≡ record { operation = take-snapshot; worker = 0; lines = 6 ∷ 5 ∷ []; found = []; ending = answers 0; at = 10 }
+  ≡ record { operation = take-snapshot; worker = 0; lines = 6 ∷ 5 ∷ []; ending = answers 0; at = 10 }
 unfolding ledger entered put
 shared-first = ap (λ (l : List Note). fate-of l 1) shared-notes ∙ refl
 
 shared-second : fate-of (told-of shared) 2
-  ≡ record { operation = take-snapshot; worker = 1; lines = 6 ∷ 5 ∷ []; found = []; ending = answers 0; at = 5 }
+  ≡ record { operation = take-snapshot; worker = 1; lines = 6 ∷ 5 ∷ []; ending = answers 0; at = 5 }
 unfolding ledger entered put
 shared-second = ap (λ (l : List Note). fate-of l 2) shared-notes ∙ refl
 
