@@ -20,7 +20,7 @@ kept y (Notes.started w op) past a = a
 kept y (Notes.stepped w line (Notes.fetches i b) e) past a = a
 kept y (Notes.stepped w line (Notes.finds b) e) past a = a
 kept y (Notes.stepped w line (Notes.publishes i v) e) past a = a
-kept y (Notes.stepped w line (Notes.stamps i v) e) past a = among-insert _ y (effects past) a
+kept y (Notes.stepped w line (Notes.stamps i) e) past a = among-insert _ y (effects past) a
 kept y (Notes.stepped w line (Notes.moves h) e) past a = among-insert _ y (effects past) a
 kept y (Notes.stepped w line Notes.nothing e) past a = a
 

@@ -13,16 +13,16 @@ unfoldable pub insert : Effect → List Effect → List Effect
 insert x [] = x ∷ []
 insert x (y ∷ l) = cond (ltb (time x) (time y)) (y ∷ insert x l) (x ∷ y ∷ l)
 
--- when the head of item i was published
-unfoldable pub last-published : ℕ → List Note → ℕ
-last-published i [] = 0
+-- the value of the head of item i, and when it was published
+unfoldable pub last-published : ℕ → List Note → ℕ × ℕ
+last-published i [] = (0, 0)
 last-published i (refused ∷ past) = last-published i past
-last-published i (registered k v s ∷ past) = cond (eqb i k) (length past) (last-published i past)
+last-published i (registered k v s ∷ past) = cond (eqb i k) (v, length past) (last-published i past)
 last-published i (started w op ∷ past) = last-published i past
 last-published i (stepped w line (fetches k b) e ∷ past) = last-published i past
 last-published i (stepped w line (finds b) e ∷ past) = last-published i past
-last-published i (stepped w line (publishes k v) e ∷ past) = cond (eqb i k) (length past) (last-published i past)
-last-published i (stepped w line (stamps k v) e ∷ past) = last-published i past
+last-published i (stepped w line (publishes k v) e ∷ past) = cond (eqb i k) (v, length past) (last-published i past)
+last-published i (stepped w line (stamps k) e ∷ past) = last-published i past
 last-published i (stepped w line (moves h) e ∷ past) = last-published i past
 last-published i (stepped w line nothing e ∷ past) = last-published i past
 
@@ -39,6 +39,6 @@ effects (started w op ∷ past) = effects past
 effects (stepped w line (fetches i b) e ∷ past) = effects past
 effects (stepped w line (finds b) e ∷ past) = effects past
 effects (stepped w line (publishes i v) e ∷ past) = effects past
-effects (stepped w line (stamps i v) e ∷ past) = insert (change (last-step w past) i v (last-published i past)) (effects past)
+effects (stepped w line (stamps i) e ∷ past) = let h = last-published i past in insert (change (last-step w past) i (h .0) (h .1)) (effects past)
 effects (stepped w line (moves h) e ∷ past) = insert (snapshot (length past) h) (effects past)
 effects (stepped w line nothing e ∷ past) = effects past

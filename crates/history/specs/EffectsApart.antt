@@ -101,7 +101,7 @@ module _ (s : Catalogue) (invariant : Invariant s) (run : List Note) (trace : Tr
     at-46 = trace .memory .publishes-only o i v p P
 
     at-22 : (j : ℕ) × (suc j < s .memory .item i .valid) × (z ≡ s .memory .item i .stamped-at (suc j))
-    at-22 = trace .memory .stamps-only (F .0) i (F .1) z (F .2)
+    at-22 = trace .memory .stamps-only (F .0) i z (F .1)
 
     abbrev j : ℕ
     j = at-46 .0
@@ -110,7 +110,7 @@ module _ (s : Catalogue) (invariant : Invariant s) (run : List Note) (trace : Tr
     not-before : at-22 .0 < at-46 .0 → ⊥
     not-before u = omega (arith, stamped-first (invariant .kept .memory) i (suc (at-22 .0)) (suc (at-46 .0)) (omega arith) (at-46 .1), at-46 .2,
         at-22 .2,
-        F .3 .0)
+        F .2 .0)
 
     good : suc j < s .memory .item i .valid
     good = by (split (suc (at-46 .0)) (s .memory .item i .valid))
@@ -123,7 +123,7 @@ module _ (s : Catalogue) (invariant : Invariant s) (run : List Note) (trace : Tr
     S = trace .memory .stamped i j good
 
     first : z ≤ s .memory .item i .stamped-at (suc j)
-    first = F .3 .1 (s .memory .item i .stamped-at (suc j)) (S .o, s .memory .item i .value (suc j), S .stored)
+    first = F .2 .1 (s .memory .item i .stamped-at (suc j)) (S .o, S .stored)
         (omega (arith, at-46 .2, invariant .kept .memory .item i .effect-after-46 (suc j) good, S .before))
 
     when : z ≡ s .memory .item i .stamped-at (suc j)
@@ -139,8 +139,7 @@ module _ (s : Catalogue) (invariant : Invariant s) (run : List Note) (trace : Tr
             let q : at-22 .0 ≡ at-46 .0 = omega arith in at-22 .2 ∙ ap (λ (n : ℕ). s .memory .item i .stamped-at (suc n)) q
 
     one : F .0 ≡ S .o
-    one = same-event run (F .2) (subst (λ (t : ℕ). Executed run (S .o) 22 (Notes.stamps i (s .memory .item i .value (suc j))) t) (sym when)
-        (S .stored)) .2
+    one = same-event run (F .1) (subst (λ (t : ℕ). Executed run (S .o) 22 (Notes.stamps i) t) (sym when) (S .stored)) .2
 
     -- both are the step of that operation before its line 22
     read : t ≡ s .memory .item i .effect-at (suc j)
@@ -149,10 +148,10 @@ module _ (s : Catalogue) (invariant : Invariant s) (run : List Note) (trace : Tr
         by : Split t (s .memory .item i .effect-at (suc j)) → Split (s .memory .item i .effect-at (suc j)) t → t ≡ s .memory .item i .effect-at
             (suc j)
         by (Split.less u) w =
-            absurd (omega (arith, when, S .before, F .5 .1 (s .memory .item i .effect-at (suc j))
+            absurd (omega (arith, when, S .before, F .4 .1 (s .memory .item i .effect-at (suc j))
               (21, Notes.nothing, subst (λ (q : ℕ). Executed run q 21 Notes.nothing (s .memory .item i .effect-at (suc j))) (sym one) (S .read)) u))
         by (Split.more u) (Split.less w) =
-            absurd (omega (arith, when, F .5 .0, S .own-next 21 Notes.nothing t (subst (λ (q : ℕ). Executed run q 21 Notes.nothing t) one (F .4))
+            absurd (omega (arith, when, F .4 .0, S .own-next 21 Notes.nothing t (subst (λ (q : ℕ). Executed run q 21 Notes.nothing t) one (F .3))
                 w))
         by (Split.more u) (Split.more w) = omega arith
 

@@ -33,9 +33,13 @@ use Rattle.history.specs.EffectsRight.{effect-tag, effect-item, effect-p
     MemoryEffects, more-items, same-effects, one-version, one-snapshot}
 use Rattle.history.specs.Instants.{published-rises}
 
+-- the value of the head of an item, and when it was published
+abbrev pub head-of : Item → ℕ × ℕ
+head-of it = (it .value (pred (it .versions)), it .published-at (pred (it .versions)))
+
 pub record Effected (s : Catalogue) (run : List Note) : Type 0 where
   pub memory : MemoryEffects (s .memory) (effects run)
-  pub newest : (i : ℕ) → i < s .memory .items → last-published i run ≡ s .memory .item i .published-at (pred (s .memory .item i .versions))
+  pub newest : (i : ℕ) → i < s .memory .items → last-published i run ≡ head-of (s .memory .item i)
 
 -- ---- deeds
 
@@ -45,7 +49,7 @@ unfolding effects
 silent-effect run w k (Notes.fetches i b) e p = refl
 silent-effect run w k (Notes.finds b) e p = refl
 silent-effect run w k (Notes.publishes i v) e p = absurd (omega arith)
-silent-effect run w k (Notes.stamps i v) e p = absurd (omega arith)
+silent-effect run w k (Notes.stamps i) e p = absurd (omega arith)
 silent-effect run w k (Notes.moves h) e p = absurd (omega arith)
 silent-effect run w k Notes.nothing e p = refl
 
@@ -56,7 +60,7 @@ unfolding last-published
 not-two run w k (Notes.fetches n b) e i p = refl
 not-two run w k (Notes.finds b) e i p = refl
 not-two run w k (Notes.publishes n v) e i p = absurd (p refl)
-not-two run w k (Notes.stamps n v) e i p = refl
+not-two run w k (Notes.stamps n) e i p = refl
 not-two run w k (Notes.moves h) e i p = refl
 not-two run w k Notes.nothing e i p = refl
 
@@ -98,18 +102,14 @@ module _ (s : Catalogue) (invariant : Invariant s) (run : List Note) (A : Agrees
       unborn (of-counter h p q) = let z : _≡_ {A = ℕ} 0 2 = ap effect-tag q in omega arith
       unborn (of-version i (suc j) p q) = let z : _≡_ {A = ℕ} 0 1 = ap effect-tag q in omega arith
       unborn (of-version i zero p q) = omega (arith, none-yet, ap (λ (i : ℕ). s .memory .item i .valid) (ap effect-item q))
-      newest : (i : ℕ) → i < suc (s .memory .items) → Same i (s .memory .items) → last-published i (Notes.registered (s .memory .items) v z ∷ run) ≡ put
-          (s .memory .item) (s .memory .items) it i .published-at (pred (put (s .memory .item) (s .memory .items) it i .versions))
+      newest : (i : ℕ) → i < suc (s .memory .items) → Same i (s .memory .items) → last-published i (Notes.registered (s .memory .items) v z ∷ run)
+          ≡ head-of (put (s .memory .item) (s .memory .items) it i)
       newest i p (eq e) = unfold last-published in
-        (by-eq (λ (t : ℕ). t ≡ put (s .memory .item) (s .memory .items) it i .published-at
-            (pred (put (s .memory .item) (s .memory .items) it i .versions))) i (s .memory .items)
-            (λ q. now ∙ ap (λ (it : Item). it .published-at (pred (it .versions))) (sym (put-same (s .memory .item) (s .memory .items) it i e)))
-            (λ q. absurd (q e)))
+        (by-eq (λ (x : ℕ × ℕ). x ≡ head-of (put (s .memory .item) (s .memory .items) it i)) i (s .memory .items)
+            (λ q. ap (λ (t : ℕ). (v, t)) now ∙ ap head-of (sym (put-same (s .memory .item) (s .memory .items) it i e))) (λ q. absurd (q e)))
       newest i p (ne e) = unfold last-published in
-        (by-eq (λ (t : ℕ). t ≡ put (s .memory .item) (s .memory .items) it i .published-at
-            (pred (put (s .memory .item) (s .memory .items) it i .versions))) i (s .memory .items) (λ q. absurd (e q))
-          (λ q. E .newest i (omega arith) ∙ ap (λ (it : Item). it .published-at (pred (it .versions)))
-              (sym (put-other (s .memory .item) (s .memory .items) it i e))))
+        (by-eq (λ (x : ℕ × ℕ). x ≡ head-of (put (s .memory .item) (s .memory .items) it i)) i (s .memory .items) (λ q. absurd (e q))
+          (λ q. E .newest i (omega arith) ∙ ap head-of (sym (put-other (s .memory .item) (s .memory .items) it i e))))
 
   -- ---- a step of worker w
 
@@ -170,13 +170,13 @@ module _ (s : Catalogue) (invariant : Invariant s) (run : List Note) (A : Agrees
         there : Split i (s .memory .items) → i < s .memory .items
         there (Split.less b) = b
         there (Split.more b) = absurd (omega (arith, a .head, invariant .kept .memory .unregistered i b))
-        published-then : last-published i run ≡ s .memory .item i .published-at j
+        published-then : last-published i run ≡ (s .memory .item i .value j, s .memory .item i .published-at j)
         published-then = let z : pred (s .memory .item i .versions) ≡ j = omega (arith, a .head) in E .newest i (there (split i (s .memory .items)))
-            ∙ ap (s .memory .item i .published-at) z
+            ∙ ap (λ (j : ℕ). (s .memory .item i .value j, s .memory .item i .published-at j)) z
         -- the change took effect at the line 21 of that worker, at r
-        stamped-now : effects (Notes.stepped w k (Notes.stamps i (s .memory .item i .value j)) end ∷ run) ≡ insert x (effects run)
+        stamped-now : effects (Notes.stepped w k (Notes.stamps i) end ∷ run) ≡ insert x (effects run)
         stamped-now = unfold effects in
-            ap₂ (λ (t p : ℕ). insert (change t i (s .memory .item i .value j) p) (effects run))
+            ap₂ (λ (t : ℕ) (h : ℕ × ℕ). insert (change t i (h .0) (h .1)) (effects run))
               (ap (λ (o : ℕ). ledger run .fate o .at) z ∙ last-is run o r (q .2)) published-then
         unstamped : IsEffect (s .memory) x → ⊥
         unstamped (of-counter h p q) = let z : _≡_ {A = ℕ} 1 2 = ap effect-tag q in omega arith
@@ -203,8 +203,7 @@ module _ (s : Catalogue) (invariant : Invariant s) (run : List Note) (A : Agrees
     -- the newest version of each item
     step-newest : (e : Machine.Effect) (d : Deed) → Allowed (s .now) o op p (s .memory) e → Matches (s .memory) run o e k d → (i : ℕ) →
         i < memory-after (s .now) o e (s .memory) .items →
-      last-published i (Notes.stepped w k d end ∷ run) ≡ memory-after (s .now) o e (s .memory) .item i .published-at
-          (pred (memory-after (s .now) o e (s .memory) .item i .versions))
+      last-published i (Notes.stepped w k d end ∷ run) ≡ head-of (memory-after (s .now) o e (s .memory) .item i)
     unfolding memory-after
     step-newest nothing d a q i b = not-two run w k d end i (λ e. omega arith) ∙ E .newest i b
     step-newest (takes-node i0 b0 j y) d a q i b = not-two run w k d end i (λ e. omega arith) ∙ E .newest i b
@@ -212,16 +211,16 @@ module _ (s : Catalogue) (invariant : Invariant s) (run : List Note) (A : Agrees
     step-newest counts d a q i b = not-two run w k d end i (λ e. let z : deed-tag d ≡ 4 = ap deed-tag (q .1) in omega arith) ∙ E .newest i b
     step-newest (stamps n j c r) d a q i b =
         not-two run w k d end i (λ e. let z : deed-tag d ≡ 3 = ap deed-tag (q .1) in omega arith) ∙ E .newest i b
-          ∙ put-all (λ (i : ℕ) (it : Item). s .memory .item i .published-at (pred (s .memory .item i .versions)) ≡ it .published-at (pred (it .versions)))
-              (s .memory .item) n (stamped (s .now) j c r (s .memory .item n)) i
-            (λ e. ap (λ (i : ℕ). s .memory .item i .published-at (pred (s .memory .item i .versions))) e) (λ e. refl)
+          ∙ put-all (λ (i : ℕ) (it : Item). head-of (s .memory .item i) ≡ head-of it) (s .memory .item) n
+              (stamped (s .now) j c r (s .memory .item n)) i (λ e. ap (λ (i : ℕ). head-of (s .memory .item i)) e) (λ e. refl)
     step-newest (publishes n v y) d a q i b =
         ap (λ (d : Deed). last-published i (Notes.stepped w k d end ∷ run)) (q .1)
-          ∙ unfold last-published in (by-eq (λ (t : ℕ). t ≡ put (s .memory .item) n it i .published-at
-            (pred (put (s .memory .item) n it i .versions))) i n
-            (λ e. now ∙ sym (put-same (s .memory .item n .published-at) (s .memory .item n .versions) (s .now) (s .memory .item n .versions) refl)
-                ∙ ap (λ (it : Item). it .published-at (pred (it .versions))) (sym (put-same (s .memory .item) n it i e)))
-            (λ e. E .newest i b ∙ ap (λ (it : Item). it .published-at (pred (it .versions))) (sym (put-other (s .memory .item) n it i e))))
+          ∙ unfold last-published in (by-eq (λ (x : ℕ × ℕ). x ≡ head-of (put (s .memory .item) n it i)) i n
+            (λ e. ap₂ (λ (v t : ℕ). (v, t))
+                (sym (put-same (s .memory .item n .value) (s .memory .item n .versions) v (s .memory .item n .versions) refl))
+                (now ∙ sym (put-same (s .memory .item n .published-at) (s .memory .item n .versions) (s .now) (s .memory .item n .versions) refl))
+                ∙ ap head-of (sym (put-same (s .memory .item) n it i e)))
+            (λ e. E .newest i b ∙ ap head-of (sym (put-other (s .memory .item) n it i e))))
       where
         it : Item
         it = published (s .now) o v y (s .memory .item n)
@@ -234,7 +233,7 @@ module _ (s : Catalogue) (invariant : Invariant s) (run : List Note) (A : Agrees
         memory = subst (λ (m : Memory). MemoryEffects m (effects (x ∷ run))) (sym after-memory)
             (step-effects w o (phase-operation ph) (has-published ph) (line-number ph) (ending n) does (phase-deed (s .memory) ph)
             (right .does) found-deed stamps-last);
-        newest = λ i b. subst (λ (m : Memory). i < m .items → last-published i (x ∷ run) ≡ m .item i .published-at (pred (m .item i .versions)))
+        newest = λ i b. subst (λ (m : Memory). i < m .items → last-published i (x ∷ run) ≡ head-of (m .item i))
             (sym after-memory)
           (step-newest w o (phase-operation ph) (has-published ph) (line-number ph) (ending n) does (phase-deed (s .memory) ph)
               (right .does) found-deed i) b }

@@ -80,15 +80,15 @@ module _ (s : Catalogue) (invariant : Invariant s) (run : List Note) (T : Traced
       when : s .memory .item i' .stamped-at (suc j) ≡ s .memory .item i .stamped-at (suc g)
       when = omega (arith,
         S' .own-next 22 _ _
-            (subst (λ (o : ℕ). Executed run o 22 (Notes.stamps i (s .memory .item i .value (suc g))) (s .memory .item i .stamped-at (suc g))) (sym same-o)
+            (subst (λ (o : ℕ). Executed run o 22 (Notes.stamps i) (s .memory .item i .stamped-at (suc g))) (sym same-o)
             (T .memory .stamped i g good .stored)) (omega (arith, T .memory .stamped i g good .before)),
         T .memory .stamped i g good .own-next 22 _ _
-            (subst (λ (o : ℕ). Executed run o 22 (Notes.stamps i' (s .memory .item i' .value (suc j))) (s .memory .item i' .stamped-at (suc j))) same-o
+            (subst (λ (o : ℕ). Executed run o 22 (Notes.stamps i') (s .memory .item i' .stamped-at (suc j))) same-o
             (S' .stored)) (omega (arith, S' .before)))
       item : i' ≡ i
       item = ap deed-item
           (same-event run (S' .stored)
-          (subst (λ (t : ℕ). Executed run (T .memory .stamped i g good .o) 22 (Notes.stamps i (s .memory .item i .value (suc g))) t) (sym when)
+          (subst (λ (t : ℕ). Executed run (T .memory .stamped i g good .o) 22 (Notes.stamps i) t) (sym when)
           (T .memory .stamped i g good .stored)) .1)
       good' : suc j < s .memory .item i .valid
       good' = subst (λ (n : ℕ). suc j < s .memory .item n .valid) item p

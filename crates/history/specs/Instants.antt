@@ -52,7 +52,7 @@ module _ (s : Catalogue) (invariant : Invariant s) (run : List Note) (T : Traced
   first-stamp : (i p j : ℕ) → suc j < s .memory .item i .valid → s .memory .item i .published-at (suc j) ≤ p → p < s .memory .item i .stamped-at (suc j) →
     FirstStamp run i p (s .memory .item i .effect-at (suc j)) (s .memory .item i .stamped-at (suc j))
   first-stamp i p j g a b =
-      (S .o, s .memory .item i .value (suc j), S .stored, (b, λ s' e q. at s' q (T .memory .stamps-only (e .0) i (e .1) s' (e .2))), S .read,
+      (S .o, S .stored, (b, λ s' e q. at s' q (T .memory .stamps-only (e .0) i s' (e .1))), S .read,
         (S .before, λ t e q. S .own-next (e .0) (e .1) t (e .2) q))
     where
       S : Stamping (s .memory .item i) run i (suc j)

@@ -45,8 +45,7 @@ phase-deed m (total-34 q h k i u f j x) = Notes.nothing
 phase-deed m (closing q h k u) = Notes.nothing
 phase-deed m (line-20 c j) = finds (ltb j (m .item (helped-item c) .valid))
 phase-deed m (line-21 c j) = Notes.nothing
-phase-deed m (line-22 c j n r) = cond (ltb j (m .item (helped-item c) .valid)) Notes.nothing
-    (Notes.stamps (helped-item c) (m .item (helped-item c) .value j))
+phase-deed m (line-22 c j n r) = cond (ltb j (m .item (helped-item c) .valid)) Notes.nothing (Notes.stamps (helped-item c))
 
 abbrev pub worker-line : Worker → ℕ
 worker-line idle = 0

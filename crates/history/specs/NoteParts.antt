@@ -7,7 +7,7 @@ abbrev pub deed-tag : Deed → ℕ
 deed-tag (Notes.fetches i b) = 1
 deed-tag (Notes.finds b) = 1
 deed-tag (Notes.publishes i v) = 2
-deed-tag (Notes.stamps i v) = 3
+deed-tag (Notes.stamps i) = 3
 deed-tag (Notes.moves h) = 4
 deed-tag Notes.nothing = 0
 
@@ -15,7 +15,7 @@ abbrev pub deed-item : Deed → ℕ
 deed-item (Notes.fetches i b) = i
 deed-item (Notes.finds b) = 0
 deed-item (Notes.publishes i v) = i
-deed-item (Notes.stamps i v) = i
+deed-item (Notes.stamps i) = i
 deed-item (Notes.moves h) = h
 deed-item Notes.nothing = 0
 
@@ -23,7 +23,7 @@ abbrev pub deed-value : Deed → ℕ
 deed-value (Notes.fetches i b) = 0
 deed-value (Notes.finds b) = 0
 deed-value (Notes.publishes i v) = v
-deed-value (Notes.stamps i v) = v
+deed-value (Notes.stamps i) = 0
 deed-value (Notes.moves h) = 0
 deed-value Notes.nothing = 0
 

@@ -20,7 +20,7 @@ pub data Deed : Type 0 where
   fetches : (i : ℕ) (valid : Bool) → Deed     -- lines 32, 37 and 41: the head of item i, whose stamp is valid, or TBD
   finds : (valid : Bool) → Deed               -- line 20: the stamp of the node that it helps is valid, or TBD
   publishes : (i v : ℕ) → Deed                -- line 46, where it succeeds: a node of value v becomes the head of item i
-  stamps : (i v : ℕ) → Deed                   -- line 22, where it succeeds: a node of item i, of value v, has its stamp
+  stamps : (i : ℕ) → Deed                     -- line 22, where it succeeds: a node of item i has its stamp
   moves : (h : ℕ) → Deed                      -- line 6, where it succeeds: the counter leaves h
   nothing : Deed
 
@@ -46,7 +46,7 @@ deed-at line m w =
         (fetches (m (item w)) (not (eqb (m (stamp (m (head (m (item w)))))) TBD)))
     (cond (eqb line 20) (finds (not (eqb (m (stamp (m (node w)))) TBD)))
     (cond (eqb line 46 && eqb (m (head (m (item w)))) (m (node w))) (publishes (m (item w)) (m (value (m (new-node w)))))
-    (cond (eqb line 22 && eqb (m (stamp (m (node w)))) TBD) (stamps (m (item w)) (m (value (m (node w)))))
+    (cond (eqb line 22 && eqb (m (stamp (m (node w)))) TBD) (stamps (m (item w)))
     (cond (eqb line 6 && eqb (m counter) (m (seen w))) (moves (m counter)) nothing))))
 
 -- a step with its answer: finished, running, or ended with number 11 or 12; any other answer is a refusal

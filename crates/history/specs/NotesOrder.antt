@@ -110,7 +110,7 @@ module _ (s : Catalogue) (invariant : Invariant s) (run : List Note) (T : Traced
       P : (j : ℕ) × (suc j < s .memory .item i .versions) × (C .1 ≡ s .memory .item i .published-at (suc j))
       P = T .memory .publishes-only o i (C .0) (C .1) (C .3)
       Q : (j : ℕ) × (suc j < s .memory .item i .valid) × (C .2 ≡ s .memory .item i .stamped-at (suc j))
-      Q = T .memory .stamps-only (C .4 .0) i (C .4 .1) (C .2) (C .4 .2)
+      Q = T .memory .stamps-only (C .4 .0) i (C .2) (C .4 .1)
       mine : o ≡ s .memory .item i .author (suc (P .0))
       mine = same-event run (C .3)
           (subst (λ (t : ℕ). Executed run (s .memory .item i .author (suc (P .0))) 46 (Notes.publishes i (s .memory .item i .value (suc (P .0)))) t) (sym (P .2))
@@ -119,7 +119,7 @@ module _ (s : Catalogue) (invariant : Invariant s) (run : List Note) (T : Traced
       stamped (Split.less p) = p
       stamped (Split.more q) =
           absurd (omega (arith, stamped-first (invariant .kept .memory) i (suc (Q .0)) (suc (P .0)) (omega (arith, Q .1)) (P .1), P .2, Q .2,
-              C .4 .3 .0))
+              C .4 .2 .0))
 
   told : Agrees s run → Moments s run → Told.OneOrder run
   told A M =

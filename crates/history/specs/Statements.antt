@@ -59,7 +59,7 @@ module _ (run : List Note) where
   abbrev pub Published : (i t : ℕ) → Type 0
   Published i t = (c : ℕ) × (v : ℕ) × Executed c 46 (publishes i v) t
   abbrev pub Stamped : (i t : ℕ) → Type 0
-  Stamped i t = (q : ℕ) × (v : ℕ) × Executed q 22 (stamps i v) t
+  Stamped i t = (q : ℕ) × Executed q 22 (stamps i) t
   abbrev pub Moved : (t : ℕ) → Type 0
   Moved t = (q : ℕ) × (h : ℕ) × Executed q 6 (moves h) t
   abbrev pub Steps : (o t : ℕ) → Type 0
@@ -67,7 +67,7 @@ module _ (run : List Note) where
 
   -- the first line 22 to stamp a node of item i after p was at s, and line 21 of the same operation, its own step before that, at r
   abbrev pub FirstStamp : (i p r s : ℕ) → Type 0
-  FirstStamp i p r s = (q : ℕ) × (v : ℕ) × Executed q 22 (stamps i v) s × Next (Stamped i) p s × Executed q 21 nothing r × Next (Steps q) r s
+  FirstStamp i p r s = (q : ℕ) × Executed q 22 (stamps i) s × Next (Stamped i) p s × Executed q 21 nothing r × Next (Steps q) r s
 
   -- ---- when things take effect
 

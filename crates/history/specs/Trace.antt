@@ -164,7 +164,7 @@ EndTraced m run o (total q h) l p = Unit {0}
 -- version j was stamped by operation o, whose own step before was the line 21 of its effect
 pub record Stamping (it : Item) (run : List Note) (i j : ℕ) : Type 0 where
   pub o : ℕ
-  pub stored : Executed run o 22 (Notes.stamps i (it .value j)) (it .stamped-at j)
+  pub stored : Executed run o 22 (Notes.stamps i) (it .stamped-at j)
   pub read : Executed run o 21 Notes.nothing (it .effect-at j)
   pub before : it .effect-at j < it .stamped-at j
   pub own-next : (line : ℕ) (d : Deed) (t : ℕ) → Executed run o line d t → it .effect-at j < t → it .stamped-at j ≤ t
@@ -175,7 +175,7 @@ pub record MemoryTraced (m : Memory) (run : List Note) : Type 0 where
   pub publishes-only : (o i v p : ℕ) → Executed run o 46 (Notes.publishes i v) p → (j : ℕ) × (suc j < m .item i .versions)
       × (p ≡ m .item i .published-at (suc j))
   pub stamped : (i j : ℕ) → suc j < m .item i .valid → Stamping (m .item i) run i (suc j)
-  pub stamps-only : (o i v s : ℕ) → Executed run o 22 (Notes.stamps i v) s → (j : ℕ) × (suc j < m .item i .valid) × (s ≡ m .item i .stamped-at (suc j))
+  pub stamps-only : (o i s : ℕ) → Executed run o 22 (Notes.stamps i) s → (j : ℕ) × (suc j < m .item i .valid) × (s ≡ m .item i .stamped-at (suc j))
   pub left : (h : ℕ) → h < m .camera .counter → (o : ℕ) × Executed run o 6 (Notes.moves h) (m .camera .left-at h)
 
 abbrev pub WorkerTraced : Memory → List Note → Worker → Type 0

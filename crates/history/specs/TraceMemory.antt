@@ -29,7 +29,7 @@ abbrev pub Matches : Memory → List Note → ℕ → Effect → ℕ → Deed �
 Matches m run o nothing k d = deed-tag d ≤ 1
 Matches m run o counts k d = (k ≡ 6) × (d ≡ Notes.moves (m .camera .counter))
 Matches m run o (publishes i v y) k d = (k ≡ 46) × (d ≡ Notes.publishes i v)
-Matches m run o (stamps i j c r) k d = (k ≡ 22) × (d ≡ Notes.stamps i (m .item i .value j)) × ReadAt run o r
+Matches m run o (stamps i j c r) k d = (k ≡ 22) × (d ≡ Notes.stamps i) × ReadAt run o r
 Matches m run o (takes-node i b j y) k d = deed-tag d ≤ 1
 Matches m run o (gives-back y) k d = deed-tag d ≤ 1
 
@@ -77,8 +77,7 @@ matches t o m run (line-20 c j) z = omega arith
 matches t o m run (line-21 c j) z = omega arith
 matches t o m run (line-22 c j n r) z = at (ltb j (m .item (helped-item c) .valid))
   where
-    at : (b : Bool) → Matches m run o (cond b nothing (stamps (helped-item c) j n r)) 22
-        (cond b Notes.nothing (Notes.stamps (helped-item c) (m .item (helped-item c) .value j)))
+    at : (b : Bool) → Matches m run o (cond b nothing (stamps (helped-item c) j n r)) 22 (cond b Notes.nothing (Notes.stamps (helped-item c)))
     at true = omega arith
     at false = (refl, refl, z .1)
 
@@ -106,7 +105,7 @@ module _ {t : ℕ} {m m' : Memory} (L : Later t m m') (known : MemoryFacts t m) 
         (Notes.publishes i (m' .item i .value (suc j))) (m' .item i .published-at (suc j))) →
     ((i v : ℕ) → note-tag x ≡ 3 → note-deed x ≡ Notes.publishes i v → (j : ℕ) × (suc j < m' .item i .versions) × (t ≡ m' .item i .published-at (suc j))) →
     ((i j : ℕ) → m .item i .valid ≤ suc j → suc j < m' .item i .valid → Stamping (m' .item i) (x ∷ run) i (suc j)) →
-    ((i v : ℕ) → note-tag x ≡ 3 → note-deed x ≡ Notes.stamps i v → (j : ℕ) × (suc j < m' .item i .valid) × (t ≡ m' .item i .stamped-at (suc j))) →
+    ((i : ℕ) → note-tag x ≡ 3 → note-deed x ≡ Notes.stamps i → (j : ℕ) × (suc j < m' .item i .valid) × (t ≡ m' .item i .stamped-at (suc j))) →
     ((h : ℕ) → m .camera .counter ≤ h → h < m' .camera .counter → (o : ℕ) × Executed (x ∷ run) o 6 (Notes.moves h) (m' .camera .left-at h)) →
     MemoryTraced m' (x ∷ run)
   traced-more new-published new-publishes new-stamped new-stamps new-left =
@@ -114,7 +113,7 @@ module _ {t : ℕ} {m m' : Memory} (L : Later t m m') (known : MemoryFacts t m) 
         published = λ i j p. published-at i j p (split (suc j) (m .item i .versions));
         publishes-only = λ o i v p e. publishes-at o i v p (executed-inv run x e);
         stamped = λ i j p. stamped-at i j p (split (suc j) (m .item i .valid));
-        stamps-only = λ o i v s e. stamps-at o i v s (executed-inv run x e);
+        stamps-only = λ o i s e. stamps-at o i s (executed-inv run x e);
         left = λ h p. left-at h p (split h (m .camera .counter)) }
     where
       published-at : (i j : ℕ) → suc j < m' .item i .versions → Split (suc j) (m .item i .versions) → Executed (x ∷ run) (m' .item i .author (suc j)) 46
@@ -140,9 +139,8 @@ module _ {t : ℕ} {m m' : Memory} (L : Later t m m') (known : MemoryFacts t m) 
           let S : Stamping (m .item i) run i (suc j) = tr .stamped i j q in
           record {
             o = S .o;
-            stored = subst (λ (s : ℕ). Executed (x ∷ run) (S .o) 22 (Notes.stamps i (m' .item i .value (suc j))) s) (sym (L .item i .stamped-at (suc j) q))
-              (subst (λ (v : ℕ). Executed (x ∷ run) (S .o) 22 (Notes.stamps i v) (m .item i .stamped-at (suc j)))
-                  (sym (L .item i .value (suc j) (omega (arith, known .item i .valid-published)))) (executed-more x (S .stored)));
+            stored = subst (λ (s : ℕ). Executed (x ∷ run) (S .o) 22 (Notes.stamps i) s) (sym (L .item i .stamped-at (suc j) q))
+              (executed-more x (S .stored));
             read = subst (λ (r : ℕ). Executed (x ∷ run) (S .o) 21 Notes.nothing r) (sym (L .item i .effect-at (suc j) q)) (executed-more x (S .read));
             before = omega (arith, S .before, L .item i .effect-at (suc j) q, L .item i .stamped-at (suc j) q);
             own-next = λ line d u e b. own i j q S line d u (executed-inv run x e) (omega (arith, L .item i .effect-at (suc j) q)) }
@@ -152,13 +150,13 @@ module _ {t : ℕ} {m m' : Memory} (L : Later t m m') (known : MemoryFacts t m) 
               × (length run ≡ u)) → m .item i .effect-at (suc j) < u → m' .item i .stamped-at (suc j) ≤ u
           own i j q S line d u (inl e) b = omega (arith, S .own-next line d u e b, L .item i .stamped-at (suc j) q)
           own i j q S line d u (inr (a, c, f, g, e)) b = omega (arith, known .item i .stamped-past (suc j) q, L .item i .stamped-at (suc j) q)
-      stamps-at : (o i v s : ℕ) → Executed run o 22 (Notes.stamps i v) s
-          ⊎ ((note-tag x ≡ 3) × (note-line x ≡ 22) × (note-deed x ≡ Notes.stamps i v) × (ledger run .current (note-worker x) ≡ o) × (length run ≡ s)) →
+      stamps-at : (o i s : ℕ) → Executed run o 22 (Notes.stamps i) s
+          ⊎ ((note-tag x ≡ 3) × (note-line x ≡ 22) × (note-deed x ≡ Notes.stamps i) × (ledger run .current (note-worker x) ≡ o) × (length run ≡ s)) →
           (j : ℕ) × (suc j < m' .item i .valid) × (s ≡ m' .item i .stamped-at (suc j))
-      stamps-at o i v s (inl e) = let z : (j : ℕ) × (suc j < m .item i .valid) × (s ≡ m .item i .stamped-at (suc j)) = tr .stamps-only o i v s e in
+      stamps-at o i s (inl e) = let z : (j : ℕ) × (suc j < m .item i .valid) × (s ≡ m .item i .stamped-at (suc j)) = tr .stamps-only o i s e in
           (z .0, omega (arith, z .1, L .item i .more-valid), z .2 ∙ sym (L .item i .stamped-at (suc (z .0)) (z .1)))
-      stamps-at o i v s (inr (a, b, c, d, e)) = let z : (j : ℕ) × (suc j < m' .item i .valid) × (t ≡ m' .item i .stamped-at (suc j)) =
-          new-stamps i v a c in (z .0, z .1, sym e ∙ now ∙ z .2)
+      stamps-at o i s (inr (a, b, c, d, e)) = let z : (j : ℕ) × (suc j < m' .item i .valid) × (t ≡ m' .item i .stamped-at (suc j)) =
+          new-stamps i a c in (z .0, z .1, sym e ∙ now ∙ z .2)
       left-at : (h : ℕ) → h < m' .camera .counter → Split h (m .camera .counter) → (o : ℕ) × Executed (x ∷ run) o 6 (Notes.moves h) (m' .camera .left-at h)
       left-at h p (Split.more q) = new-left h q p
       left-at h p (Split.less q) = let z : (o : ℕ) × Executed run o 6 (Notes.moves h) (m .camera .left-at h) = tr .left h q in
@@ -190,7 +188,7 @@ module _ (t o w : ℕ) (m : Memory) (known : MemoryFacts t m) (run : List Note) 
         (λ i j a b. absurd (omega (arith, ap (λ (it : Item). it .versions) (same i))))
         (λ i v a b. absurd (no-deed {d' = Notes.publishes i v} q refl (omega arith) b))
         (λ i j a b. absurd (omega (arith, ap (λ (it : Item). it .valid) (same i))))
-        (λ i v a b. absurd (no-deed {d' = Notes.stamps i v} q refl (omega arith) b))
+        (λ i a b. absurd (no-deed {d' = Notes.stamps i} q refl (omega arith) b))
         (λ h a b. absurd (omega arith))
 
   pub effect-traced : (e : Effect) → Allowed t o op p m e → Matches m run o e k d → MemoryTraced (memory-after t o e m) (Notes.stepped w k d end ∷ run)
@@ -204,7 +202,7 @@ module _ (t o w : ℕ) (m : Memory) (known : MemoryFacts t m) (run : List Note) 
         (λ i j u b. absurd (omega arith))
         (λ i v u b. absurd (other-deed {d' = Notes.publishes i v} (q .1) refl refl (omega arith) b))
         (λ i j u b. absurd (omega arith))
-        (λ i v u b. absurd (other-deed {d' = Notes.stamps i v} (q .1) refl refl (omega arith) b))
+        (λ i u b. absurd (other-deed {d' = Notes.stamps i} (q .1) refl refl (omega arith) b))
         (λ h u b. (o, at h (omega arith)))
     where
       c : ℕ
@@ -222,7 +220,7 @@ module _ (t o w : ℕ) (m : Memory) (known : MemoryFacts t m) (run : List Note) 
         (λ n j. put-all (λ (n : ℕ) (z : Item). m .item n .valid ≤ suc j → suc j < z .valid → Stamping z (Notes.stepped w k d end ∷ run) n (suc j))
             (m .item) i it n
           (λ e u b. absurd (omega (arith, ap (λ (n : ℕ). m .item n .valid) e))) (λ e u b. absurd (omega arith)))
-        (λ n v' u b. absurd (other-deed {d' = Notes.stamps n v'} (q .1) refl refl (omega arith) b))
+        (λ n u b. absurd (other-deed {d' = Notes.stamps n} (q .1) refl refl (omega arith) b))
         (λ h u b. absurd (omega arith))
     where
       it : Item
@@ -251,7 +249,7 @@ module _ (t o w : ℕ) (m : Memory) (known : MemoryFacts t m) (run : List Note) 
         (λ n j'. put-all (λ (n : ℕ) (z : Item). m .item n .valid ≤ suc j' → suc j' < z .valid → Stamping z (Notes.stepped w k d end ∷ run) n (suc j'))
             (m .item) i it n
           (λ e u b. new n j' e (omega (arith, a .undecided, ap (λ (n : ℕ). m .item n .valid) e))) (λ e u b. absurd (omega arith)))
-        (λ n v' u b. newest n (ap deed-item (sym b ∙ q .1)) (zero-or j refl))
+        (λ n u b. newest n (ap deed-item (sym b ∙ q .1)) (zero-or j refl))
         (λ h u b. absurd (omega arith))
     where
       it : Item
@@ -260,9 +258,8 @@ module _ (t o w : ℕ) (m : Memory) (known : MemoryFacts t m) (run : List Note) 
       new n j' e f =
           record {
             o = o;
-            stored = subst (λ (s : ℕ). Executed (Notes.stepped w k d end ∷ run) o 22 (Notes.stamps n (m .item i .value (suc j'))) s)
-                (sym (put-same (m .item i .stamped-at) j t (suc j') f))
-              (here-as (q .0) (q .1 ∙ ap₂ (λ (n j : ℕ). Notes.stamps n (m .item i .value j)) (sym e) (sym f)));
+            stored = subst (λ (s : ℕ). Executed (Notes.stepped w k d end ∷ run) o 22 (Notes.stamps n) s)
+                (sym (put-same (m .item i .stamped-at) j t (suc j') f)) (here-as (q .0) (q .1 ∙ ap Notes.stamps (sym e)));
             read = subst (λ (u : ℕ). Executed (Notes.stepped w k d end ∷ run) o 21 Notes.nothing u) (sym (put-same (m .item i .effect-at) j r (suc j') f))
                 (executed-more (Notes.stepped w k d end) (q .2 .read));
             before = omega (arith, a .before, put-same (m .item i .effect-at) j r (suc j') f, put-same (m .item i .stamped-at) j t (suc j') f);

@@ -98,7 +98,7 @@ module _ (s : Catalogue) (invariant : Invariant s) (run : List Note) (A : Agrees
   after-refusal =
       record {
         memory = traced-more stay (invariant .kept .memory) run now (T .memory) Notes.refused (λ i j a b. absurd (omega arith))
-            (λ i v a b. absurd (omega arith)) (λ i j a b. absurd (omega arith)) (λ i v a b. absurd (omega arith)) (λ h a b. absurd (omega arith));
+            (λ i v a b. absurd (omega arith)) (λ i j a b. absurd (omega arith)) (λ i a b. absurd (omega arith)) (λ h a b. absurd (omega arith));
         workers = others Notes.refused (λ o line d t e. at o line d t e) (s .memory) stay;
         ends = λ q d. old-end Notes.refused (s .memory) stay q d }
     where
@@ -121,7 +121,7 @@ module _ (s : Catalogue) (invariant : Invariant s) (run : List Note) (A : Agrees
           (λ i v a b. absurd (omega arith))
           (λ i j. put-all (λ (i : ℕ) (it : Item). s .memory .item i .valid ≤ suc j → suc j < it .valid → Stamping it (x ∷ run) i (suc j))
               (s .memory .item) (s .memory .items) _ i (λ e a b. absurd (omega arith)) (λ e a b. absurd (omega arith)))
-          (λ i v a b. absurd (omega arith))
+          (λ i a b. absurd (omega arith))
           (λ h a b. absurd (omega arith));
         workers = others x at m' L;
         ends = λ q. put-all (λ (q : ℕ) (f : Entry). f .done ≡ true → EndTraced m' (x ∷ run) q (f .operation) (f .lines)
@@ -158,7 +158,7 @@ module _ (s : Catalogue) (invariant : Invariant s) (run : List Note) (A : Agrees
   after-start w op =
       record {
         memory = traced-more stay (invariant .kept .memory) run now (T .memory) (Notes.started w op) (λ i j a b. absurd (omega arith))
-            (λ i v a b. absurd (omega arith)) (λ i j a b. absurd (omega arith)) (λ i v a b. absurd (omega arith)) (λ h a b. absurd (omega arith));
+            (λ i v a b. absurd (omega arith)) (λ i j a b. absurd (omega arith)) (λ i a b. absurd (omega arith)) (λ h a b. absurd (omega arith));
         workers = λ w'. put-all (λ (w' : ℕ) (y : Worker). WorkerTraced (s .memory) (Notes.started w op ∷ run) y) (s .worker) w _ w'
             (λ e. (first-traced (Notes.started w op) (s .now) op, λ line d t z. omega (arith, named-past run (s .now) (at (s .now) line d t z), now)))
             (λ e. others (Notes.started w op) at (s .memory) stay w');
@@ -319,6 +319,6 @@ unfolding after-calls machine-notes fresh
 traced limits [] =
     record {
       memory = record { published = λ i j p. absurd (omega arith); publishes-only = λ o i v p e. absurd (e .noted);
-          stamped = λ i j p. absurd (omega arith); stamps-only = λ o i v s e. absurd (e .noted); left = λ h p. absurd (omega arith) };
+          stamped = λ i j p. absurd (omega arith); stamps-only = λ o i s e. absurd (e .noted); left = λ h p. absurd (omega arith) };
       workers = λ w. tt; ends = λ o d. absurd (true≢false (sym d)) }
 traced limits (c ∷ cs) = call-traced (after-calls limits cs) (machine-notes limits cs) (run-right limits cs) (agrees limits cs) (traced limits cs) c

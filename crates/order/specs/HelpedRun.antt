@@ -30,7 +30,7 @@ abbrev told : List Note
 told =
     stepped 0 48 nothing (answers 1) ∷ stepped 0 20 (finds true) goes-on
     ∷ stepped 2 34 nothing (answers 2) ∷ stepped 2 20 (finds true) goes-on ∷ stepped 2 32 (fetches 0 true) goes-on ∷ started 2 (read-snapshot 0 0)
-    ∷ stepped 1 39 nothing (answers 2) ∷ stepped 1 22 (stamps 0 2) goes-on
+    ∷ stepped 1 39 nothing (answers 2) ∷ stepped 1 22 (stamps 0) goes-on
     ∷ stepped 2 6 (moves 1) (answers 1) ∷ stepped 2 5 nothing goes-on ∷ started 2 take-snapshot
     ∷ stepped 2 6 (moves 0) (answers 0) ∷ stepped 2 5 nothing goes-on ∷ started 2 take-snapshot
     ∷ stepped 1 21 nothing goes-on ∷ stepped 1 20 (finds false) goes-on ∷ stepped 1 37 (fetches 0 false) goes-on ∷ started 1 (v-read 0)
@@ -144,15 +144,15 @@ helped-helper-time =
         (subst (λ (l : List Effect). In (snapshot 16 1) l) (sym helped-effects) (inl refl))
     stamped : Stamped (told-of helped) 0 17
     stamped = subst (λ (l : List Note). Stamped l 0 17) (sym helped-notes)
-        (7, 2, record { past = drop 8 told; w = 1; e = goes-on; noted = inr (inr (inr (inr (inr (inr (inr (inl (refl, refl))))))));
+        (7, record { past = drop 8 told; w = 1; e = goes-on; noted = inr (inr (inr (inr (inr (inr (inr (inl (refl, refl))))))));
           its = refl; at = refl })
     fetched : {d : Deed} {f : ℕ} → Executed (told-of helped) 7 37 d f → f ≡ 8
     fetched {d} {f} X = only-one (subst (λ (l : List ℕ). In f l) (ap (executed-at 7 37) helped-notes ∙ refl) (listed (told-of helped) X))
     at : HeadInstant (told-of helped) 7 0 37 τ → τ ≡ 17
     at (inl X) = absurd (omega (arith, fetched X, after-snapshots))
-    at (inr (f, r, X, (q, v, Y, (later, first), Z, N))) = which (same? τ 16)
+    at (inr (f, r, X, (q, Y, (later, first), Z, N))) = which (same? τ 16)
       where
         which : Same τ 16 → τ ≡ 17
         which (Same.eq e) =
-            absurd (other-line (told-of helped) (subst (λ (t : ℕ). Executed (told-of helped) q 22 (stamps 0 v) t) e Y) (moved .1) (λ e. omega arith))
+            absurd (other-line (told-of helped) (subst (λ (t : ℕ). Executed (told-of helped) q 22 (stamps 0) t) e Y) (moved .1) (λ e. omega arith))
         which (Same.ne n) = omega (arith, n, after-snapshots, first 17 stamped (omega (arith, fetched X)))

@@ -26,7 +26,7 @@ abbrev before-21 : List Note
 before-21 =
     stepped 2 45 nothing goes-on ∷ stepped 2 43 nothing goes-on ∷ stepped 2 20 (finds true) goes-on
     ∷ stepped 2 41 (fetches 0 true) goes-on ∷ started 2 (v-cas 0 2 0)
-    ∷ stepped 0 48 nothing (answers 1) ∷ stepped 0 22 (stamps 0 2) goes-on ∷ stepped 0 21 nothing goes-on ∷ stepped 0 20 (finds false) goes-on
+    ∷ stepped 0 48 nothing (answers 1) ∷ stepped 0 22 (stamps 0) goes-on ∷ stepped 0 21 nothing goes-on ∷ stepped 0 20 (finds false) goes-on
     ∷ stepped 0 46 (publishes 0 2) goes-on ∷ stepped 0 45 nothing goes-on ∷ stepped 0 43 nothing goes-on ∷ stepped 0 20 (finds true) goes-on
     ∷ stepped 0 41 (fetches 0 true) goes-on
     ∷ stepped 1 45 nothing goes-on ∷ stepped 1 43 nothing goes-on ∷ stepped 1 20 (finds true) goes-on ∷ stepped 1 41 (fetches 0 true) goes-on
@@ -36,7 +36,7 @@ abbrev told : List Note
 told =
     stepped 1 52 nothing (answers 0) ∷ stepped 1 20 (finds true) goes-on ∷ stepped 1 51 nothing goes-on ∷ stepped 1 50 nothing goes-on
     ∷ stepped 1 46 nothing goes-on
-    ∷ stepped 2 48 nothing (answers 1) ∷ stepped 2 22 (stamps 0 0) goes-on ∷ stepped 2 21 nothing goes-on ∷ stepped 2 20 (finds false) goes-on
+    ∷ stepped 2 48 nothing (answers 1) ∷ stepped 2 22 (stamps 0) goes-on ∷ stepped 2 21 nothing goes-on ∷ stepped 2 20 (finds false) goes-on
     ∷ stepped 2 46 (publishes 0 0) goes-on ∷ before-21
 
 lost-notes : told-of lost ≡ told

@@ -78,7 +78,7 @@ module _ (f : Cells) (m : Memory) (own : ℕ → Owner) (w : ℕ) (X : Standing 
         proper = (X .worker-in, omega arith, (X .worker-in, omega arith, (X .worker-in, omega arith, tt))) }
 
   -- the value of a version
-  pub value-there : (i j : ℕ) → i < m .items → j < m .item i .versions → f (node w) ≡ m .item i .node j → f (value (f (node w))) ≡ m .item i .value j
+  value-there : (i j : ℕ) → i < m .items → j < m .item i .versions → f (node w) ≡ m .item i .node j → f (value (f (node w))) ≡ m .item i .value j
   value-there i j l p e = ap (λ (y : ℕ). f (value y)) e ∙ X .shared .value-is i j l p
 
   -- the tests of lines 20 and 22

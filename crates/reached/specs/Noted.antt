@@ -22,7 +22,7 @@ use Rattle.reached.specs.Parts.{shared-of, local-of}
 use Rattle.reached.specs.Grows.{Known, then-item}
 use Rattle.reached.specs.Image.{Owner, Kept, Busy-image, Holds, phase-number, help-number, Then-kept}
 use Rattle.reached.specs.Ready.{Standing, line-same}
-use Rattle.reached.specs.LineImage.{head-test, value-there}
+use Rattle.reached.specs.LineImage.{head-test}
 use Rattle.reached.specs.Whole.{Few-steps, Catalogue-image}
 use Rattle.reached.specs.Step.{standing, is-busy, knows, has}
 use Rattle.reached.specs.Run.{few, Run-call, Run, Words-image, every-call, start, machine, limits-of, reached-image}
@@ -61,11 +61,11 @@ module _ (f : Cells) (m : Memory) (own : ℕ → Owner) (w : ℕ) (X : Standing 
         ∙ not-not (ltb j (m .item (helped-item c) .valid)))
 
   stamps-same : (c : Then) (j n r : ℕ) → Kept (m .item) (local-of f w) (line-22 c j n r) → Known m (line-22 c j n r) → f (item w) ≡ helped-item c
-      → cond (eqb (f (stamp (f (node w)))) TBD) (Notes.stamps (f (item w)) (f (value (f (node w))))) Notes.nothing ≡ phase-deed m (line-22 c j n r)
+      → cond (eqb (f (stamp (f (node w)))) TBD) (Notes.stamps (f (item w))) Notes.nothing ≡ phase-deed m (line-22 c j n r)
   stamps-same c j n r k z e =
       ap₂ (λ (b : Bool) (d : Deed). cond b d Notes.nothing) (ap (λ (y : ℕ). eqb (f (stamp y)) TBD) (k .1) ∙ stamp-test (helped-item c) j l (z .1 .there))
-        (ap₂ Notes.stamps e (value-there f m own w X 0 0 (f (Rattle.definitions.specs.Cells.steps w)) refl (helped-item c) j l (z .1 .there) (k .1)))
-      ∙ other-way (ltb j (m .item (helped-item c) .valid)) (Notes.stamps (helped-item c) (m .item (helped-item c) .value j)) Notes.nothing
+        (ap Notes.stamps e)
+      ∙ other-way (ltb j (m .item (helped-item c) .valid)) (Notes.stamps (helped-item c)) Notes.nothing
     where
       l : helped-item c < m .items
       l = then-item m c (z .0)
@@ -104,7 +104,7 @@ module _ (f : Cells) (m : Memory) (own : ℕ → Owner) (w : ℕ) (X : Standing 
   quiet-21 (then-total-34 q h n i u g) = refl
 
   deed-22 : (c : Then) → deed-at (row-of (help-number c + 2) .line) f w ≡ cond (eqb (f (stamp (f (node w)))) TBD)
-      (Notes.stamps (f (item w)) (f (value (f (node w))))) Notes.nothing
+      (Notes.stamps (f (item w))) Notes.nothing
   unfolding row-of table
   deed-22 (then-39 i g) = refl
   deed-22 (then-43 i x y g) = refl
