@@ -2,6 +2,7 @@
 # usage: bash host/bench/figures.sh [pairs]: every figure of docs/PERFORMANCE.md anew, into target/bench/. As root it installs what it needs from Debian.
 set -eu
 cd "$(dirname "$0")/../.."
+if [ "$(uname -m)" != x86_64 ]; then echo "to be run on x86-64: under an emulator a time says nothing" >&2; exit 2; fi
 pairs=${1:-101}
 needed=(gcc clang valgrind liblmdb-dev libsqlite3-dev python3)
 missing=()

@@ -2,6 +2,7 @@
 # The speed of schedule against the C program beside this script, on one generated schedule, in one run: the two take turns, and the least
 # time of each counts. usage: host/bench/run.sh [BYTES] [ROUNDS]
 cd "$(dirname "$0")/../.." || exit 2
+if [ "$(uname -m)" != x86_64 ]; then echo "to be run on x86-64: under an emulator a time says nothing" >&2; exit 2; fi
 bytes=${1:-50000000}
 rounds=${2:-9}
 work=$(mktemp -d) || exit 2
