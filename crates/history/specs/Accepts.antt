@@ -14,7 +14,7 @@ use Rattle.history.specs.Tools.{by-eq, by-test, Split, split}
 use Rattle.history.specs.Notes.{Note, if-accepted, start-of, ledger, snapshot, object-at}
 use Rattle.history.specs.Notes as Notes
 use Rattle.history.specs.NoteParts.{note-tag}
-use Rattle.history.specs.Statements.{In, Free, Asked}
+use Rattle.history.specs.Statements.{In, Free, items-now, Asked}
 use Rattle.history.specs.Effects.{effects}
 use Rattle.history.specs.Machine.{Limits, Operation, register, v-read, v-cas, take-snapshot, read-snapshot, total, Worker, idle, busy,
     Catalogue, Move, unless, is-idle, start-refusals, worker-refusals, begun, starting, move, reply, after-calls}
@@ -29,22 +29,25 @@ use Rattle.history.specs.BornItems.{known-items}
 
 -- ---- accepted where no refusal applies
 
-unless-passed : (s : Catalogue) (rs : List Refusal) (x : Move) → Passed rs → unless s rs x ≡ x
+pub unless-passed : (s : Catalogue) (rs : List Refusal) (x : Move) → Passed rs → unless s rs x ≡ x
 unless-passed s [] x p = refl
 unless-passed s (r ∷ rs) x p = by-test (λ (y : Move). y ≡ x) (r .when) (λ t. absurd (T-not (r .when) (p .0) t)) (λ t. unless-passed s rs x (p .1))
 
-passed-unless : (s : Catalogue) (rs : List Refusal) (x : Move) (y : Note) → y ≢ Notes.refused → if-accepted (unless s rs x .answer) y ≡ y → Passed rs
-passed-unless s [] x y d = λ e. tt
-passed-unless s (r ∷ rs) x y d =
-    by-test (λ (z : Move). if-accepted (z .answer) y ≡ y → Passed (r ∷ rs)) (r .when)
-      (λ t. by-eq (λ (z : Note). z ≡ y → Passed (r ∷ rs)) (16 + r .number) 2 (λ e. absurd (omega arith)) (λ n e. absurd (d (sym e))))
-      (λ t e. (t, passed-unless s rs x y d e))
+-- z: what the call is noted as where it is accepted, by the value of its answer
+pub passed-unless : (s : Catalogue) (rs : List Refusal) (x : Move) (z : ℕ → Note) (y : Note) → y ≢ Notes.refused →
+    if-accepted (unless s rs x .answer) (z (unless s rs x .answer .value)) ≡ y → Passed rs
+passed-unless s [] x z y d = λ e. tt
+passed-unless s (r ∷ rs) x z y d =
+    by-test (λ (u : Move). if-accepted (u .answer) (z (u .answer .value)) ≡ y → Passed (r ∷ rs)) (r .when)
+      (λ t. by-eq (λ (u : Note). u ≡ y → Passed (r ∷ rs)) (16 + r .number) 2 (λ e. absurd (omega arith)) (λ n e. absurd (d (sym e))))
+      (λ t e. (t, passed-unless s rs x z y d e))
 
 starts : (s : Catalogue) (w : ℕ) (op : Operation) →
     (if-accepted (starting s w op .answer) (Notes.started w op) ≡ Notes.started w op) ↔ Passed (worker-refusals s w op)
 unfolding starting
 starts s w op =
-    (passed-unless s (worker-refusals s w op) begins (Notes.started w op) (λ e. let z : _≡_ {A = ℕ} 2 0 = ap note-tag e in omega arith),
+    (passed-unless s (worker-refusals s w op) begins (λ a. Notes.started w op) (Notes.started w op)
+        (λ e. let z : _≡_ {A = ℕ} 2 0 = ap note-tag e in omega arith),
       λ p. ap (λ (x : Move). if-accepted (x .answer) (Notes.started w op)) (unless-passed s (worker-refusals s w op) begins p))
   where
     begins : Move
@@ -58,7 +61,7 @@ register-starts-none a i v z w op =
 
 -- ---- tests
 
-above : (a b : ℕ) → b < a → T (not (leb a b))
+pub above : (a b : ℕ) → b < a → T (not (leb a b))
 above a b p = not-T (leb a b) (λ t. omega (arith, leb→le a b t))
 
 not-below : (a b : ℕ) → b ≤ a → T (not (ltb a b))
@@ -94,12 +97,12 @@ module _ (s : Catalogue) (invariant : Invariant s) (run : List Note) (A : Agrees
           free o (told .2) (A .fate o .worker ∙ its .worker)
 
   -- a registered item was born before now
-  registered-known : (i : ℕ) → i < s .memory .items → i < object-at (length run) (effects run) .items
-  registered-known i p = at (split i (object-at (length run) (effects run) .items))
+  pub registered-known : (i : ℕ) → i < s .memory .items → i < items-now run (effects run)
+  registered-known i p = at (split i (items-now run (effects run)))
     where
       there : 0 < s .memory .item i .valid
       there = invariant .kept .memory .registered i p
-      at : Split i (object-at (length run) (effects run) .items) → i < object-at (length run) (effects run) .items
+      at : Split i (items-now run (effects run)) → i < items-now run (effects run)
       at (Split.less q) = q
       at (Split.more q) = absurd (omega (arith, known-items s invariant run E (length run) .2 i q p, A .now,
         invariant .kept .memory .item i .effect-before-22 0 there, invariant .kept .memory .item i .stamped-past 0 there))

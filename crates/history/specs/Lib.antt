@@ -46,6 +46,9 @@ pub mod CountsRight
 pub mod StepsTold
 pub mod InWork
 pub mod Accepts
+pub mod NodesInUse
+pub mod Registers
+pub mod LineEnds
 pub mod EffectLaws
 pub mod EffectsApart
 pub mod Promised

@@ -158,7 +158,7 @@ pub record Tally (s : Catalogue) : Type 0 where
   pub within : s .memory .camera .counter ≤ s .memory .limits .counter
 
 -- taking a node
-taken-count : (l : List ℕ) (u n y : ℕ) → first-free l u n ≡ node y → u ≤ n → (used-next l u + length l ≡ suc (u + length (all-but-first l)))
+pub taken-count : (l : List ℕ) (u n y : ℕ) → first-free l u n ≡ node y → u ≤ n → (used-next l u + length l ≡ suc (u + length (all-but-first l)))
     × (used-next l u ≤ n)
 unfolding first-free used-next all-but-first
 taken-count [] u n y e p = (omega arith, by-test (λ (g : Found). g ≡ node y → suc u ≤ n) (ltb u n) (λ t f. ltb→lt u n t) (λ t f. absurd (no-found f)) e)

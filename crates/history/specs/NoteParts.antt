@@ -61,3 +61,9 @@ note-deed Notes.refused = Notes.nothing
 note-deed (Notes.registered i v s) = Notes.nothing
 note-deed (Notes.started w op) = Notes.nothing
 note-deed (Notes.stepped w k d e) = d
+
+abbrev pub note-ending : Note → Ending
+note-ending Notes.refused = Notes.goes-on
+note-ending (Notes.registered i v s) = Notes.goes-on
+note-ending (Notes.started w op) = Notes.goes-on
+note-ending (Notes.stepped w k d e) = e

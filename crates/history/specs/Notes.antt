@@ -2,7 +2,7 @@
 -- what each operation came to, and what took effect when.
 use mathlib.Core.Path.{_≡_}
 use mathlib.Core.Logic.{_≢_}
-use Prim.Native.Nat.{ℕ, _+_, _<_}
+use Prim.Native.Nat.{ℕ, suc, pred, _+_, _<_}
 use mathlib.Core.Bool.{Bool, true, false, cond, not, _&&_}
 use mathlib.Core.List.{List, [], _∷_, _++_}
 use lib.Dec.{ltb, leb, eqb}
@@ -150,6 +150,16 @@ entered t (stepped w line d e) l =
 unfoldable pub ledger : List Note → Ledger
 ledger [] = record { fate = λ o. begins take-snapshot 0 (ends-with 0) 0; current = λ w. 0 }
 ledger (x ∷ past) = entered (length past) x (ledger past)
+
+-- how many nodes are in use: a register takes one, a line 45 that goes on takes one, a line 50 gives one back
+unfoldable pub nodes-in-use : List Note → ℕ
+nodes-in-use [] = 0
+nodes-in-use (refused ∷ past) = nodes-in-use past
+nodes-in-use (registered i v s ∷ past) = suc (nodes-in-use past)
+nodes-in-use (started w op ∷ past) = nodes-in-use past
+nodes-in-use (stepped w line d goes-on ∷ past) = let n = nodes-in-use past in cond (eqb line 45) (suc n) (cond (eqb line 50) (pred n) n)
+nodes-in-use (stepped w line d (answers x) ∷ past) = nodes-in-use past
+nodes-in-use (stepped w line d (ends-with number) ∷ past) = nodes-in-use past
 
 -- ---- the lines of an operation, the newest first
 

@@ -5,13 +5,13 @@ use mathlib.Core.Path.{_≡_}
 use mathlib.Core.Logic.{_≢_, _⊎_, _↔_}
 use mathlib.Core.Bool.{Bool, true, false, cond, not}
 use mathlib.Core.List.{List, [], _∷_, _++_, map}
-use Prim.Native.Nat.{ℕ, suc, _+_, _≤_, _<_}
+use Prim.Native.Nat.{ℕ, suc, pred, _+_, _≤_, _<_}
 use lib.ListN.{length, getD}
 use Rattle.definitions.specs.Calls.{Call, outcome}
 use Rattle.cells.specs.WellFormed.{Well-formed}
 use Rattle.history.specs.Definition1.{Operation, register, v-read, v-cas, take-snapshot, read-snapshot, total, total-of, Follows, Legal}
 use Rattle.history.specs.Notes.{Deed, fetches, finds, publishes, stamps, moves, nothing, Ending, goes-on, answers, ends-with, Note, registered,
-    started, stepped, start-of, note, Run-call, damaged-code, Fate, ledger, read-lines, WholeLines, RefusedLines, most-steps, Effect,
+    started, stepped, start-of, note, Run-call, damaged-code, Fate, ledger, nodes-in-use, read-lines, WholeLines, RefusedLines, most-steps, Effect,
     birth, change, snapshot, time, object-at, changes-between}
 
 -- ---- lists and times
@@ -38,11 +38,13 @@ Next P f t = (f < t) × ((t' : ℕ) → P t' → f < t' → t ≤ t')
 module _ (run : List Note) where
   -- ---- events
 
-  -- what operation o came to, and that it answered x
+  -- what operation o came to; it answered x; no operation of worker w goes on
   abbrev pub fate-of : ℕ → Fate
   fate-of o = ledger run .fate o
   abbrev pub Finished : (o x : ℕ) → Type 0
   Finished o x = fate-of o .ending ≡ answers x
+  abbrev pub Free : (w : ℕ) → Type 0
+  Free w = (o : ℕ) → fate-of o .ending ≡ goes-on → fate-of o .worker ≢ w
 
   -- operation o executed a line at time t, and did d
   pub record Executed (o line : ℕ) (d : Deed) (t : ℕ) : Type 0 where
@@ -143,10 +145,6 @@ module _ (run : List Note) where
     -- and each answer is right by Definition 1
     pub legal : Legal (map (λ o. record { operation = fate-of o .operation; answer = answer o }) order)
 
-  -- no operation of worker w goes on
-  abbrev pub Free : (w : ℕ) → Type 0
-  Free w = (o : ℕ) → fate-of o .ending ≡ goes-on → fate-of o .worker ≢ w
-
   -- ---- exact reads
 
   -- what an effect is the effect of
@@ -191,12 +189,14 @@ module _ (run : List Note) where
 
     -- ---- starts
 
-    -- What a start asks for, where there are q projects: its item is registered, its values are projects, the counter has left its handle, and the
-    -- item of a readSnapshot was registered before that. A register is no start.
+    -- How many items are registered; and what a start asks for, where there are q projects: its item is registered, its values are projects, the
+    -- counter has left its handle, and the item of a readSnapshot was registered before that. A register is no start.
+    abbrev pub items-now : ℕ
+    items-now = object-at (length run) effects .items
     abbrev pub Asked : (q : ℕ) → Operation → Type 0
     Asked q (register i v s) = ⊥
-    Asked q (v-read i) = i < object-at (length run) effects .items
-    Asked q (v-cas i old new) = (i < object-at (length run) effects .items) × (old < q) × (new < q)
+    Asked q (v-read i) = i < items-now
+    Asked q (v-cas i old new) = (i < items-now) × (old < q) × (new < q)
     Asked q take-snapshot = Unit {0}
     Asked q (read-snapshot i h) = (left : ℕ) × In (snapshot left h) effects × (i < object-at left effects .items)
     Asked q (total r h) = (r < q) × (left : ℕ) × In (snapshot left h) effects
@@ -228,9 +228,9 @@ module _ (run : List Note) where
       pub progress : (o : ℕ) → fate-of o .ending ≡ goes-on →
         (ledger run .current (fate-of o .worker) ≡ o) × (length (fate-of o .lines) < most-steps (fate-of o .operation))
 
--- ---- and of its words now, where told are its notes and the catalogue was made with p workers and q projects
+-- ---- and of its words now, where told are its notes and the catalogue was made with p workers, m items, n nodes, q projects and a counter up to c
 
-pub record Demands (p q : ℕ) (now : List ℕ) (told : List Note) : Type 0 where
+pub record Demands (p m n q c : ℕ) (now : List ℕ) (told : List Note) : Type 0 where
   -- no call answers 2, and the words are well-formed
   pub never-2 : (x : Call) → Run-call now x → outcome now x .answer .code ≢ damaged-code
   pub formed : Well-formed now
@@ -239,6 +239,15 @@ pub record Demands (p q : ℕ) (now : List ℕ) (told : List Note) : Type 0 wher
   pub promises : Promises told effects
   -- a start is accepted exactly when its worker is there and free, and what it asks for is there
   pub accepted : (w : ℕ) (op : Operation) → (note now (start-of w op) ≡ started w op) ↔ ((w < p) × Free told w × Asked told effects q op)
+  -- a register is accepted exactly when its value is a project and there is room for an item and a node
+  pub registers : (v s : ℕ) → Run-call now (Call.register v s) → (note now (Call.register v s) ≡ registered (items-now told effects) v s)
+    ↔ ((v < q) × (items-now told effects < m) × (nodes-in-use told < n))
+  -- a step at line 45 ends with number 11 exactly when all nodes are in use
+  pub no-node : (w : ℕ) (d : Deed) (e : Ending) → note now (Call.step w) ≡ stepped w 45 d e → (e ≡ ends-with 11) ↔ (nodes-in-use told ≡ n)
+  -- the counter leaves no handle from c on, and a step at line 5 ends with number 12 exactly when it has left the last, c - 1
+  pub handles : (h t : ℕ) → In (snapshot t h) effects → h < c
+  pub full : (w : ℕ) (d : Deed) (e : Ending) → note now (Call.step w) ≡ stepped w 5 d e →
+    (e ≡ ends-with 12) ↔ ((t : ℕ) × In (snapshot t (pred c)) effects)
   -- an operation that goes on is never refused a step
   pub never-stuck : (o : ℕ) → fate-of told o .ending ≡ goes-on →
     (line : ℕ) × (d : Deed) × (e : Ending) × (note now (Call.step (fate-of told o .worker)) ≡ stepped (fate-of told o .worker) line d e)

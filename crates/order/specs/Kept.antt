@@ -54,7 +54,7 @@ module _ (ws : List ℕ) (p m n q c : ℕ) (made : outcome ws (Call.make p m n q
   first [] = refused
   first (x ∷ l) = x
 
-  a-step : (w : ℕ) → Run-call now (Call.step w)
+  pub a-step : (w : ℕ) → Run-call now (Call.step w)
   a-step w = sized-call now (Call.step w) (omega arith) refl
 
   -- the note of one more call

@@ -1,5 +1,6 @@
 pub mod Kept
 pub mod Accepted
+pub mod Numbered
 pub mod Theorems
 pub mod LastMake
 pub mod WorkedRuns
