@@ -60,6 +60,16 @@ total-to (suc n) q x = total-to n q x + cond (eqb (x .value n) q) (x .size n) 0
 abbrev pub total-of : ℕ → Object → ℕ
 total-of q x = total-to (x .items) q x
 
+-- x is in a list
+abbrev pub In : {A : Type 0} → A → List A → Type 0
+In x [] = ⊥
+In x (y ∷ l) = (x ≡ y) ⊎ In x l
+
+-- nothing stands twice in it
+abbrev pub Once : {A : Type 0} → List A → Type 0
+Once [] = Unit {0}
+Once (x ∷ l) = (In x l → ⊥) × Once l
+
 -- x stands in a list whose newest is first, and past is what came before it
 abbrev pub Follows : {A : Type 0} → A → List A → List A → Type 0
 Follows x past [] = ⊥

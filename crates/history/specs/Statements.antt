@@ -9,22 +9,13 @@ use Prim.Native.Nat.{ℕ, suc, pred, _+_, _≤_, _<_}
 use lib.ListN.{length, getD}
 use Rattle.definitions.specs.Calls.{Call, outcome}
 use Rattle.cells.specs.WellFormed.{Well-formed}
+pub use Rattle.history.specs.Definition1.{In, Once}
 use Rattle.history.specs.Definition1.{Operation, register, v-read, v-cas, take-snapshot, read-snapshot, total, total-of, Follows, Legal}
 use Rattle.history.specs.Notes.{Deed, fetches, finds, publishes, stamps, moves, nothing, Ending, goes-on, answers, ends-with, Note, registered,
     started, stepped, start-of, note, Run-call, damaged-code, Fate, ledger, nodes-in-use, read-lines, WholeLines, RefusedLines, most-steps, Effect,
     birth, change, snapshot, time, object-at, changes-between}
 
--- ---- lists and times
-
--- x is in a list
-abbrev pub In : {A : Type 0} → A → List A → Type 0
-In x [] = ⊥
-In x (y ∷ l) = (x ≡ y) ⊎ In x l
-
--- nothing stands twice in it
-abbrev pub Once : {A : Type 0} → List A → Type 0
-Once [] = Unit {0}
-Once (x ∷ l) = (In x l → ⊥) × Once l
+-- ---- times
 
 -- the newest first: times do not rise
 abbrev pub Falling : {A : Type 0} → (A → ℕ) → List A → Type 0
