@@ -12,14 +12,23 @@ fi
 # Says what is missing, and fails, where there is no compiler for x86-64.
 has_compiler() {
   command -v "$compiler" > /dev/null && return
-  echo "there is no $compiler here: a C compiler for x86-64 (Debian: gcc-x86-64-linux-gnu libc6-dev-amd64-cross, or CC=..)"
+  echo "there is no $compiler here: a C compiler for x86-64 (Debian, on Arm: gcc-x86-64-linux-gnu libc6-dev-amd64-cross; or CC=..)"
   return 1
 }
 
-# wrap FILE COMMAND..: writes FILE, which runs the command with its arguments
+# needs_compiler WHAT: ends a test of WHAT where there is none: as failed, or on another machine, where it may be had no more easily, as not tested
+needs_compiler() {
+  has_compiler && return
+  if [ "$native" = yes ]; then exit 1; fi
+  echo "not tested: $1"
+  exit 0
+}
+
+# wrap FILE COMMAND..: writes FILE, which runs the command with its arguments; at once, since another may be running it
 wrap() {
-  { echo '#!/bin/sh'; printf 'exec'; printf " '%s'" "${@:2}"; echo ' "$@"'; } > "$1"
-  chmod +x "$1"
+  { echo '#!/bin/sh'; printf 'exec'; printf " '%s'" "${@:2}"; echo ' "$@"'; } > "$1.$$"
+  chmod +x "$1.$$"
+  mv "$1.$$" "$1"
 }
 
 # compile_to FILE ARGUMENTS..: builds FILE for x86-64; elsewhere FILE runs FILE.x86-64 under the emulator

@@ -4,7 +4,7 @@
 set -eu
 cd "$(dirname "$0")/.."
 . host/machine.sh
-has_compiler || { echo "not tested: the hostile test"; exit 0; }
+needs_compiler "the hostile test"
 seconds=${1:-30}
 seed=${2:-1}
 if [ "$native" = yes ]; then

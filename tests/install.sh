@@ -4,7 +4,7 @@
 set -eu
 cd "$(dirname "$0")/.."
 . host/machine.sh
-has_compiler || { echo "not tested: the package"; exit 0; }
+needs_compiler "the package"
 there=$(mktemp -d)
 trap 'rm -rf "$there"' EXIT
 bash host/install.sh "$there" > /dev/null

@@ -3,7 +3,7 @@
 set -eu
 cd "$(dirname "$0")/.."
 . host/machine.sh
-has_compiler || { echo "not tested: the page"; exit 0; }
+needs_compiler "the page"
 bash host/build.sh page
 target/host/page > target/host/page.out
 diff tests/listing.out target/host/page.out

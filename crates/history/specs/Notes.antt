@@ -17,7 +17,7 @@ use Rattle.history.specs.Definition1.{Operation, register, v-read, v-cas
 
 -- What a line did that others can see, or saw of others:
 pub data Deed : Type 0 where
-  fetches : (i : ℕ) (valid : Bool) → Deed     -- lines 32, 37 and 41: the head of item i, whose stamp is valid, or TBD
+  fetches : (i : ℕ) (valid : Bool) → Deed     -- lines 32 (of a total, also where it passes item i over), 37, 41: item i's head, its stamp valid, or TBD
   finds : (valid : Bool) → Deed               -- line 20: the stamp of the node that it helps is valid, or TBD
   publishes : (i v : ℕ) → Deed                -- line 46, where it succeeds: a node of value v becomes the head of item i
   stamps : (i : ℕ) → Deed                     -- line 22, where it succeeds: a node of item i has its stamp
