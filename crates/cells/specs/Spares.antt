@@ -8,10 +8,10 @@ use lib.Dec.{eqb, ltb, leb}
 use lib.ListN.{getD}
 use borrow.Author.Tests.{leb-false, ltb-false, eqb-false}
 use Rattle.definitions.specs.declared.PhaseRow.{PhaseRow}
-use Rattle.definitions.specs.Cells.{project, handle, noted, Cells, Assignment, _≔_, workers, items-limit, nodes-limit, counter-limit, counter, items, used, given-back, phase, steps, item, old, new, node, new-node, seen, head, birth, size, value, older, stamp, record-of, cleared}
-use Rattle.definitions.specs.Answers.{Outcome, Refusal, unless, _⇒_, goes-on, accepts}
+use Rattle.definitions.specs.Cells.{project, handle, noted, Cells, Assignment, _≔_, workers, items-limit, nodes-limit, counter, items, used, given-back, phase, steps, item, old, new, node, new-node, head, birth, size, value, older, stamp, record-of, cleared}
+use Rattle.definitions.specs.Answers.{Outcome, Refusal, unless, _⇒_, accepts}
 use Rattle.definitions.specs.Phases.{row-of, table, closing-phase, total-start, v-read-start, v-cas-start, take-snapshot-start, read-snapshot-start}
-use Rattle.definitions.specs.Damage.{kept-tests, sum, inside-item, bad-handle, TBD, any-of, any-from, bad-item, bad-value, keeps-node, keeps-new-node, arguments-damaged, kept-damaged, running-damaged, worker-damaged, item-damaged, node-damaged}
+use Rattle.definitions.specs.Damage.{kept-tests, sum, inside-item, bad-handle, any-of, any-from, bad-item, bad-value, keeps-node, keeps-new-node, arguments-damaged, kept-damaged, running-damaged, worker-damaged, item-damaged, node-damaged}
 use Rattle.definitions.specs.Lines.{Line, line, lines, line-of-phase, idle, fetch, help-20, help-21, help-22, fetch-head, line-20, line-21, line-22, line-39, line-43, line-45, line-46, line-48, line-50, line-52, line-5, line-6, line-34, total-32, total-34, closing, no-node, node-to-take, taking, succeeds-22, succeeds-46, counter-full, succeeds-6, too-new, to-older}
 use Rattle.definitions.specs.Calls.{Call, no-worker, busy, sound-item, registering, starting-v-read, starting-v-cas, starting-take-snapshot, starting-read-snapshot, starting-total, stepping}
 use Rattle.cells.specs.Update.{Proper, record-proper}

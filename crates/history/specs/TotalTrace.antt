@@ -1,7 +1,7 @@
 -- The lines of a total, item by item, with the step of each line 32: what its phases say of the run.
 use mathlib.Core.Path.{_≡_}
 use mathlib.Core.List.{List, [], _∷_, _++_}
-use Prim.Native.Nat.{ℕ, suc, _+_, _≤_, _<_}
+use Prim.Native.Nat.{ℕ, suc, _≤_, _<_}
 use native.Mathlib.Omega.{arith}
 use Rattle.history.specs.Tools.{Split, split}
 use Rattle.history.specs.Notes.{Note}

@@ -58,9 +58,16 @@ module _ (ws : List ℕ) (p m n q c : ℕ) (made : outcome ws (Call.make p m n q
   a-step w = sized-call now (Call.step w) (omega arith) refl
 
   -- the note of one more call
-  pub same-note : (x : Call) → Run-call now x → note now x ≡ machine-note (after-calls (limits-of p m n q c) cs) x
+  same-note : (x : Call) → Run-call now x → note now x ≡ machine-note (after-calls (limits-of p m n q c) cs) x
   unfolding notes machine-notes first
   same-note x t = ap first (notes-agree ws p m n q c made (x ∷ cs) (run, t))
+
+  -- what holds of the machine's notes, and of its note of one more call, holds of these
+  pub of-words : (P : Note → List Note → Type 0) (x : Call) → Run-call now x →
+      P (machine-note (after-calls (limits-of p m n q c) cs) x) (machine-notes (limits-of p m n q c) cs) → P (note now x) told
+  of-words P x call y =
+      subst (P (note now x)) (sym same-notes)
+        (subst (λ (a : Note). P a (machine-notes (limits-of p m n q c) cs)) (sym (same-note x call)) y)
 
   step-same : (w : ℕ) → note now (Call.step w) ≡ machine-note (after-calls (limits-of p m n q c) cs) (Call.step w)
   step-same w = same-note (Call.step w) (a-step w)

@@ -15,6 +15,7 @@ use Rattle.history.specs.Notes.{fetches, finds, publishes, stamps, nothing, goe
 use Rattle.history.specs.Statements.{In, fate-of, Executed, LossInstant, CasInstant, TellsOf}
 use Rattle.history.specs.Effects.{insert, last-published, effects}
 use Rattle.history.specs.Immediately.{same-event}
+use Rattle.history.specs.EffectsRight.{effect-tag, effect-published}
 use Rattle.history.specs.Examples.{lost}
 use Rattle.history.specs.Examples as Examples
 use Rattle.order.specs.WorkedRuns.{told-of, Plain, promised, order-of-theorem, same-order, answered, differ}
@@ -95,21 +96,9 @@ lost-second-time =
     change-time lost lost-plain 16 1 0 2 0 21 23 lost-second refl refl refl (ap (executed-at 16 46) lost-notes ∙ refl)
       (ap (changed-at 21) lost-effects ∙ refl)
 
--- when the node of a change was published
-publication : Effect → ℕ
-publication (birth t i v s) = 0
-publication (change t i v p) = p
-publication (snapshot t h) = 0
-
--- births are no changes
-kind : Effect → ℕ
-kind (birth t i v s) = 0
-kind (change t i v p) = 1
-kind (snapshot t h) = 2
-
 -- the first publication since its line 41, call 3, was at call 11
 lost-loser-time : order-of-theorem lost lost-plain .time 2 ≡ 13
-unfolding executed-at ledger entered put publication kind
+unfolding executed-at ledger entered put
 lost-loser-time = at (cas-instant lost lost-plain 2 0 0 1 3 lost-loser refl refl)
   where
     τ : ℕ
@@ -136,9 +125,9 @@ lost-loser-time = at (cas-instant lost lost-plain 2 0 0 1 3 lost-loser refl refl
             late = only-one (subst (λ (l : List ℕ). In p l) (ap (executed-at 16 46) lost-notes ∙ refl)
                 (listed (told-of lost) (subst (λ (c : ℕ). Executed (told-of lost) c 46 (publishes 0 v) p) winner Y)))
         which : In (change τ 0 v' p') (change 23 0 0 21 ∷ change 13 0 2 11 ∷ birth 0 0 1 100 ∷ []) → τ ≡ 13
-        which (inl e) = absurd (not-second (ap publication e))
+        which (inl e) = absurd (not-second (ap effect-published e))
         which (inr (inl e)) = ap time e
-        which (inr (inr (inl e))) = absurd (omega (arith, ap kind e))
+        which (inr (inr (inl e))) = absurd (omega (arith, ap effect-tag e))
         which (inr (inr (inr n))) = absurd n
     at : CasInstant (told-of lost) 2 0 52 τ → τ ≡ 13
     at (inl (q, h)) = absurd (omega arith)

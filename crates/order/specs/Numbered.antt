@@ -14,7 +14,7 @@ use Rattle.history.specs.Registers as Registers
 use Rattle.history.specs.LineEnds.{ends-45, ends-5, below-limit}
 use Rattle.reached.specs.Run.{in-limits, limits-of}
 use Rattle.reached.specs.Noted.{notes-agree}
-use Rattle.order.specs.Kept.{same-note, a-step}
+use Rattle.order.specs.Kept.{of-words, a-step}
 
 module _ (ws : List ℕ) (p m n q c : ℕ) (made : outcome ws (Call.make p m n q c) .answer .code ≡ 2) (cs : List Call)
     (run : Run (start ws p m n q c) cs) where
@@ -23,25 +23,15 @@ module _ (ws : List ℕ) (p m n q c : ℕ) (made : outcome ws (Call.make p m n q
   abbrev told : List Note
   told = notes (start ws p m n q c) cs
 
-  abbrev its : List Note
-  its = machine-notes (limits-of p m n q c) cs
-
-  -- what holds of the machine's notes, and of its note of one more call, holds of these
-  of-words : (P : Note → List Note → Type 0) (x : Call) → Run-call now x → P (machine-note (after-calls (limits-of p m n q c) cs) x) its →
-      P (note now x) told
-  of-words P x call y =
-      subst (P (note now x)) (sym (notes-agree ws p m n q c made cs run))
-        (subst (λ (a : Note). P a its) (sym (same-note ws p m n q c made cs run x call)) y)
-
   -- of one more step
-  of-step : (P : Note → List Note → Type 0) (w : ℕ) → P (machine-note (after-calls (limits-of p m n q c) cs) (Call.step w)) its →
+  of-step : (P : Note → List Note → Type 0) (w : ℕ) → P (machine-note (after-calls (limits-of p m n q c) cs) (Call.step w)) (machine-notes (limits-of p m n q c) cs) →
       P (note now (Call.step w)) told
-  of-step P w = of-words P (Call.step w) (a-step ws p m n q c made cs run w)
+  of-step P w = of-words ws p m n q c made cs run P (Call.step w) (a-step ws p m n q c made cs run w)
 
   pub registers : (v s : ℕ) → Run-call now (Call.register v s) → (note now (Call.register v s) ≡ registered (items-now told (effects told)) v s)
     ↔ ((v < q) × (items-now told (effects told) < m) × (nodes-in-use told < n))
   registers v s call =
-      of-words (λ (x : Note) (l : List Note). (x ≡ registered (items-now l (effects l)) v s)
+      of-words ws p m n q c made cs run (λ (x : Note) (l : List Note). (x ≡ registered (items-now l (effects l)) v s)
           ↔ ((v < q) × (items-now l (effects l) < m) × (nodes-in-use l < n)))
         (Call.register v s) call (Registers.registers (limits-of p m n q c) cs v s)
 

@@ -1,19 +1,21 @@
 -- What the three worked runs on words have in common. Their calls stand in history's Examples; HelpedRun, LostRun and SharedRun show of each, all
 -- computed from the words, its notes, the order that the theorem gives, the order of the answers, which is another, and when what took effect.
-use mathlib.Core.Path.{_≡_, refl, ap, sym, _∙_, subst}
+use mathlib.Core.Path.{_≡_, refl, ap, sym, _∙_}
 use mathlib.Core.Logic.{_≢_}
-use mathlib.Core.Bool.{Bool, true, false, _&&_}
+use mathlib.Core.Bool.{Bool, true, false, not, _&&_}
 use mathlib.Core.List.{List, [], _∷_}
 use Prim.Native.Nat.{ℕ}
 use lib.Dec.{T, ltb, ltb→lt}
 use lib.ListN.{length, replicate}
 use Rattle.definitions.specs.Calls.{Call, making, outcome}
+use Rattle.cells.specs.Made.{is-make}
 use Rattle.history.specs.Tools.{and-parts}
 use Rattle.history.specs.Notes.{goes-on, answers, ends-with, Note, refused, registered, started, stepped, words-after, notes, start, Run-call, Run,
     ledger}
 use Rattle.history.specs.Statements.{OneOrder, Promises}
 use Rattle.history.specs.Effects.{effects}
 use Rattle.history.specs.Examples.{made, order-of}
+use Rattle.reached.specs.Run.{size-of, sized-call}
 use Rattle.order.specs.Kept.{order-kept}
 use Rattle.order.specs.Theorems.{demands}
 
@@ -33,14 +35,7 @@ told-of cs = notes (start lent 3 1 4 4 16) (made cs [])
 
 -- no make, and a size of 32 bits
 abbrev plain : Call → Bool
-plain (Call.make p m n q c) = false
-plain (Call.register v s) = ltb s 4294967296
-plain (Call.v-read w i) = true
-plain (Call.v-cas w i old new) = true
-plain (Call.take-snapshot w) = true
-plain (Call.read-snapshot w i h) = true
-plain (Call.total w q h) = true
-plain (Call.step w) = true
+plain x = not (is-make x) && ltb (size-of x) 4294967296
 
 abbrev all-plain : List Call → Bool
 all-plain [] = true
@@ -49,14 +44,17 @@ all-plain (x ∷ cs) = plain x && all-plain cs
 abbrev pub Plain : List Call → Type 0
 Plain cs = T (all-plain (made cs []))
 
+is-false : (b : Bool) → T (not b) → b ≡ false
+is-false true t = absurd t
+is-false false t = refl
+
 is-run : (ws : List ℕ) (cs : List Call) → T (all-plain cs) → Run ws cs
 is-run ws [] t = tt
 is-run ws (x ∷ cs) t = (is-run ws cs (and-parts (plain x) (all-plain cs) t .1), one x (and-parts (plain x) (all-plain cs) t .0))
   where
     one : (x : Call) → T (plain x) → Run-call (words-after ws cs) x
-    one x t = record {
-      typed = λ v s e. ltb→lt s 4294967296 (subst (λ (x : Call). T (plain x)) e t);
-      no-make = λ p m n q c e. absurd (subst (λ (x : Call). T (plain x)) e t) }
+    one x t = let y : T (not (is-make x)) × T (ltb (size-of x) 4294967296) = and-parts (not (is-make x)) (ltb (size-of x) 4294967296) t in
+        sized-call (words-after ws cs) x (ltb→lt (size-of x) 4294967296 (y .1)) (is-false (is-make x) (y .0))
 
 -- ---- the order of the theorem, and the order of the answers; operations by the times of their starts, the newest first
 

@@ -2,7 +2,7 @@
 use Prim.Native.Nat.{ℕ, _<_, _≤_}
 use mathlib.Core.Bool.{false, true≢false}
 use mathlib.Core.List.{List, [], _∷_}
-use mathlib.Core.Logic.{_≢_, inl}
+use mathlib.Core.Logic.{inl}
 use mathlib.Core.Path.{_≡_, refl, ap, sym, _∙_, subst}
 use native.Mathlib.Omega.{arith}
 use lib.Dec.{ltb}
@@ -36,7 +36,7 @@ pub no-make-call : (ws : List ℕ) (x : Call) → Typed x → is-make x ≡ fals
 no-make-call ws x t e = record { typed = t; no-make = λ p m n q c d. absurd (true≢false (sym (ap is-make d) ∙ e)) }
 
 -- the size that a call registers, or 0: all that is asked of its type
-abbrev size-of : Call → ℕ
+abbrev pub size-of : Call → ℕ
 size-of (Call.make p m n q c) = 0
 size-of (Call.register v s) = s
 size-of (Call.v-read w i) = 0
