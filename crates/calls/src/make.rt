@@ -39,5 +39,5 @@ pub fn make(words: &mut [u32], workers: u32, items: u32, nodes: u32, projects: u
     words[NODES_LIMIT] = nodes;
     words[PROJECTS] = projects;
     words[COUNTER_LIMIT] = counter;
-    Answer { code: 2, value: 0, steps: 0 }
+    Answer { code: 2, value: 0, steps: 0, stamped: 0, operator: 0 }
 }

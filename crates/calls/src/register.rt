@@ -33,7 +33,7 @@ fn register_taking(words: &mut [u32], value: u32, size: u32) -> Answer
     words[at + BIRTH] = counter;
     words[at + SIZE] = size;
     words[ITEMS] = item + 1;
-    Answer { code: 2, value: item as u64, steps: 0 }
+    Answer { code: 2, value: item as u64, steps: 0, stamped: 0, operator: 0 }
 }
 
 // Register where the header is not damaged: the refusals, then the item.

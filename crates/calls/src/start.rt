@@ -71,7 +71,7 @@ fn item_refusal(words: &[u32], item: u32) -> u32
 fn accept(value: u64) -> Answer
     ensures { λ r. ⌜ r ≡ accepted value ⌝ }
 {
-    Answer { code: 2, value, steps: 0 }
+    Answer { code: 2, value, steps: 0, stamped: 0, operator: 0 }
 }
 
 pub fn start_vread(words: &mut [u32], worker: u32, item: u32) -> Answer

@@ -5,11 +5,11 @@ use mathlib.Core.Path.{_≡_, refl, subst}
 use native.Mathlib.Omega.{arith}
 use lib.Dec.{ltb}
 use borrow.Author.Tests.{ltb-true, ltb-false}
-use Rattle.definitions.specs.Cells.{Cell, place, items-start, nodes-start, needed}
+use Rattle.definitions.specs.Cells.{node-words, Cell, place, items-start, nodes-start, needed}
 
 -- How many records have a field of kind k: one header, p workers, m items, n nodes.
 abbrev pub records : (p m n k : ℕ) → ℕ
-records p m n k = cond (ltb k 16) 1 (cond (ltb k 32) p (cond (ltb k 36) m (cond (ltb k 39) n 0)))
+records p m n k = cond (ltb k 16) 1 (cond (ltb k 32) p (cond (ltb k 36) m (cond (ltb k (36 + node-words)) n 0)))
 
 -- A cell stands in the catalogue: there is a record that it is a field of.
 abbrev pub Stands : (p m n : ℕ) → Cell → Type 0
@@ -20,7 +20,7 @@ data Sort (p m n k i : ℕ) : ℕ → Type 0 where
   header : k < 16 → i < 1 → Sort p m n k i k
   worker : 16 ≤ k → k < 32 → i < p → Sort p m n k i (16 + 16 * i + (k - 16))
   item : 32 ≤ k → k < 36 → i < m → Sort p m n k i (items-start p + 4 * i + (k - 32))
-  node : 36 ≤ k → k < 39 → i < n → Sort p m n k i (nodes-start p m + (3 * i + (k - 36)))
+  node : 36 ≤ k → k < 36 + node-words → i < n → Sort p m n k i (nodes-start p m + (node-words * i + (k - 36)))
 
 sort : (p m n : ℕ) (c : Cell) → Stands p m n c → Sort p m n (c .kind) (c .index) (place (items-start p) (nodes-start p m) c)
 sort p m n c = at-16 (ltb (c .kind) 16) refl
@@ -32,17 +32,17 @@ sort p m n c = at-16 (ltb (c .kind) 16) refl
     Goal : Bool → Bool → Bool → Bool → Type 0
     Goal a b e f =
         i < cond a 1 (cond b p (cond e m (cond f n 0)))
-        → Sort p m n k i (cond a k (cond b (16 + 16 * i + (k - 16)) (cond e (items-start p + 4 * i + (k - 32)) (nodes-start p m + (3 * i + (k - 36))))))
-    at-39 : (f : Bool) → ltb k 39 ≡ f → 36 ≤ k → Goal false false false f
-    at-39 true e l h = node l (ltb-true _ _ e) h
-    at-39 false e l h = absurd (omega arith)
-    at-36 : (f : Bool) → ltb k 36 ≡ f → 32 ≤ k → Goal false false f (ltb k 39)
+        → Sort p m n k i (cond a k (cond b (16 + 16 * i + (k - 16)) (cond e (items-start p + 4 * i + (k - 32)) (nodes-start p m + (node-words * i + (k - 36))))))
+    at-node : (f : Bool) → ltb k (36 + node-words) ≡ f → 36 ≤ k → Goal false false false f
+    at-node true e l h = node l (ltb-true _ _ e) h
+    at-node false e l h = absurd (omega arith)
+    at-36 : (f : Bool) → ltb k 36 ≡ f → 32 ≤ k → Goal false false f (ltb k (36 + node-words))
     at-36 true e l h = item l (ltb-true _ _ e) h
-    at-36 false e l h = at-39 (ltb k 39) refl (ltb-false _ _ e) h
-    at-32 : (f : Bool) → ltb k 32 ≡ f → 16 ≤ k → Goal false f (ltb k 36) (ltb k 39)
+    at-36 false e l h = at-node (ltb k (36 + node-words)) refl (ltb-false _ _ e) h
+    at-32 : (f : Bool) → ltb k 32 ≡ f → 16 ≤ k → Goal false f (ltb k 36) (ltb k (36 + node-words))
     at-32 true e l h = worker l (ltb-true _ _ e) h
     at-32 false e l h = at-36 (ltb k 36) refl (ltb-false _ _ e) h
-    at-16 : (f : Bool) → ltb k 16 ≡ f → Goal f (ltb k 32) (ltb k 36) (ltb k 39)
+    at-16 : (f : Bool) → ltb k 16 ≡ f → Goal f (ltb k 32) (ltb k 36) (ltb k (36 + node-words))
     at-16 true e h = header (ltb-true _ _ e) h
     at-16 false e h = at-32 (ltb k 32) refl (ltb-false _ _ e) h
 

@@ -7,13 +7,13 @@ use Rattle.definitions.specs.Cells.{Cells, Assignment, _≔_, phase, ste
 
 -- Two digits of code, sixteen of value, four of steps: 00 finished, 01 running, 02 started, made or registered, 16 + n refused.
 abbrev pub finished : ℕ → ℕ → Answer
-finished v n = record { code = 0; value = v; steps = n }
+finished v n = record { code = 0; value = v; steps = n; stamped = 0; operator = 0 }
 abbrev pub running : ℕ → Answer
-running n = record { code = 1; value = 0; steps = n }
+running n = record { code = 1; value = 0; steps = n; stamped = 0; operator = 0 }
 abbrev pub accepted : ℕ → Answer
-accepted v = record { code = 2; value = v; steps = 0 }
+accepted v = record { code = 2; value = v; steps = 0; stamped = 0; operator = 0 }
 abbrev pub refusal : ℕ → ℕ → Answer
-refusal number n = record { code = 16 + number; value = 0; steps = n }
+refusal number n = record { code = 16 + number; value = 0; steps = n; stamped = 0; operator = 0 }
 
 -- What a call comes to, as its answer and what it writes.
 pub record Outcome : Type 0 where

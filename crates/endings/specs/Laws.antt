@@ -8,7 +8,7 @@ use lib.ListN.{getD, set, length, length-set}
 use native.Mathlib.Omega.{arith}
 use borrow.Author.Tests.{eqb-true, eqb-false, leb-false, eq-eqb}
 use Rattle.definitions.specs.declared.Answer.{Answer}
-use Rattle.definitions.specs.Cells.{Cells, written, place, Assignment, cells-at, node, older, stamp}
+use Rattle.definitions.specs.Cells.{node-words, Cells, written, place, Assignment, cells-at, node, older, stamp}
 use Rattle.definitions.specs.Answers.{Outcome, refusal, refused}
 use Rattle.definitions.specs.Promises.{Met}
 use Rattle.definitions.specs.Damage.{bad-time, older-damaged, node-damaged}
@@ -27,15 +27,15 @@ pub refuses : {a b : ℕ} {ws : List ℕ} {r : Answer} (n : ℕ) → r ≡ refus
 refuses n e = record { answers = e; leaves = refl }
 
 -- A word of node n, read in the node part, is that word of the whole.
-pub node-word : (ws : List ℕ) (b n k : ℕ) {s : ℕ} → s ≡ getD (part ws b) (3 * n + k) 0 → s ≡ getD ws (b + (3 * n + k)) 0
-node-word ws b n k e = e ∙ read-part ws b (3 * n + k)
+pub node-word : (ws : List ℕ) (b n k : ℕ) {s : ℕ} → s ≡ getD (part ws b) (node-words * n + k) 0 → s ≡ getD ws (b + (node-words * n + k)) 0
+node-word ws b n k e = e ∙ read-part ws b (node-words * n + k)
 
 -- Line 34's test in the node part is its test in the whole.
 pub tested-is : (a b : ℕ) (ws : List ℕ) (w : ℕ)
     → node-tested (part ws b) (getD ws (16 + 16 * w + 8) 0) (getD ws (16 + 16 * w + 5) 0) (getD ws 3 0) (getD ws 7 0) (getD ws 5 0) ≡ tested-node (cells-at a b ws) w
 tested-is a b ws w =
     let n = getD ws (16 + 16 * w + 8) 0 in
-    rw (read-part ws b (3 * n + 0), read-part ws b (3 * n + 1), read-part ws b (3 * n + 2))
+    rw (read-part ws b (node-words * n + 0), read-part ws b (node-words * n + 1), read-part ws b (node-words * n + 2))
 
 and-right : {s t : Bool} → s ≡ true → (s && t) ≡ false → t ≡ false
 and-right {s} {t} e h = rw e at h
@@ -52,7 +52,7 @@ older-there a b ws w e h =
 
 -- A node's damage in the node part is its damage in the whole.
 pub outside-is : (a b : ℕ) (ws : List ℕ) (n : ℕ) → node-outside (part ws b) n (getD ws 3 0) (getD ws 7 0) (getD ws 5 0) ≡ node-damaged (cells-at a b ws) n
-outside-is a b ws n = rw (read-part ws b (3 * n + 0), read-part ws b (3 * n + 1), read-part ws b (3 * n + 2))
+outside-is a b ws n = rw (read-part ws b (node-words * n + 0), read-part ws b (node-words * n + 1), read-part ws b (node-words * n + 2))
 
 -- Assignments one after the other.
 pub written-append : (a b : ℕ) (ws : List ℕ) (xs ys : List Assignment) → written a b ws (xs ++ ys) ≡ written a b (written a b ws xs) ys

@@ -6,7 +6,7 @@ use mathlib.Core.Bool.{Bool, cond, not, _||_, _&&_}
 use lib.Dec.{ltb, leb, eqb}
 use lib.ListN.{length, getD, set}
 use Rattle.definitions.specs.declared.Answer.{Answer}
-use Rattle.definitions.specs.Cells.{Cells, cells-at, node, older}
+use Rattle.definitions.specs.Cells.{node-words, Cells, cells-at, node, older}
 use Rattle.definitions.specs.Answers.{Outcome, _⇒_, unless}
 use Rattle.definitions.specs.Damage.{any-of}
 use Rattle.definitions.specs.Lines.{Line}
@@ -28,7 +28,7 @@ moved-on ws w p n = set (set ws (16 + 16 * w + 0) p) (16 + 16 * w + 1) n
 pub record Ready (a b w : ℕ) (ws : List ℕ) : Type 0 where
   pub worker : 16 + 16 * w + 16 ≤ a
   pub items : a + 4 * getD ws 6 0 ≤ b
-  pub nodes : b + 3 * getD ws 2 0 ≤ length ws
+  pub nodes : b + node-words * getD ws 2 0 ≤ length ws
   pub used : getD ws 7 0 ≤ getD ws 2 0
   pub given-back : getD ws 8 0 ≤ getD ws 7 0
   pub few-nodes : getD ws 2 0 ≤ 4096
@@ -65,7 +65,7 @@ item-added a w v n ws =
 -- A node can be taken: what is given back was used, or a node was never used.
 pub record Can-take (b : ℕ) (ws : List ℕ) : Type 0 where
   pub header : 16 ≤ b
-  pub nodes : b + 3 * getD ws 2 0 ≤ length ws
+  pub nodes : b + node-words * getD ws 2 0 ≤ length ws
   pub used : getD ws 7 0 ≤ getD ws 2 0
   pub given-back : getD ws 8 0 ≤ getD ws 7 0
   pub few-nodes : getD ws 2 0 ≤ 4096
@@ -74,7 +74,7 @@ pub record Can-take (b : ℕ) (ws : List ℕ) : Type 0 where
 -- Line 34's damage, as the node part has it.
 abbrev pub node-tested : List ℕ → (n handle projects used counter : ℕ) → Bool
 node-tested ns n handle projects used counter =
-    any-of (ltb counter (getD ns (3 * n + 2) 0)
-    ∷ (ltb handle (getD ns (3 * n + 2) 0) && (eqb (getD ns (3 * n + 1) 0) 0 || ltb used (getD ns (3 * n + 1) 0)))
-    ∷ (not (ltb handle (getD ns (3 * n + 2) 0)) && leb projects (getD ns (3 * n + 0) 0))
+    any-of (ltb counter (getD ns (node-words * n + 2) 0)
+    ∷ (ltb handle (getD ns (node-words * n + 2) 0) && (eqb (getD ns (node-words * n + 1) 0) 0 || ltb used (getD ns (node-words * n + 1) 0)))
+    ∷ (not (ltb handle (getD ns (node-words * n + 2) 0)) && leb projects (getD ns (node-words * n + 0) 0))
     ∷ [])

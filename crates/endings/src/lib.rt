@@ -15,7 +15,7 @@ pub fn refuse(number: u32) -> Answer
     requires { ⌜ number < 16 ⌝ }
     ensures { λ r. ⌜ r ≡ refusal number 0 ⌝ }
 {
-    Answer { code: 16 + number, value: 0, steps: 0 }
+    Answer { code: 16 + number, value: 0, steps: 0, stamped: 0, operator: 0 }
 }
 
 // All sixteen words of worker w's record: a phase and an operation's arguments, everything else zero.
@@ -50,7 +50,7 @@ pub fn go_on(words: &mut [u32], w: usize, phase: u32, steps: u32) -> Answer
     let at = HEADER_WORDS + WORKER_WORDS * w;
     words[at + PHASE] = phase;
     words[at + STEPS] = steps + 1;
-    Answer { code: 1, value: 0, steps: steps + 1 }
+    Answer { code: 1, value: 0, steps: steps + 1, stamped: 0, operator: 0 }
 }
 
 // The operation ends with an answer, and worker w is idle.
@@ -59,7 +59,7 @@ pub fn finish(words: &mut [u32], w: usize, value: u64, steps: u32) -> Answer
     ensures { λ r. ⌜ (r ≡ finished value (steps + 1)) × (now (words .exit) ≡ written 0 0 (now (words .entry)) (cleared w)) ⌝ }
 {
     write_record(words, w, 0, 0, 0, 0, 0, 0, 0);
-    Answer { code: 0, value, steps: steps + 1 }
+    Answer { code: 0, value, steps: steps + 1, stamped: 0, operator: 0 }
 }
 
 // The operation ends with 11 or 12, and worker w is idle.
@@ -68,5 +68,5 @@ pub fn end_with(words: &mut [u32], w: usize, number: u32, steps: u32) -> Answer
     ensures { λ r. ⌜ (r ≡ refusal number (steps + 1)) × (now (words .exit) ≡ written 0 0 (now (words .entry)) (cleared w)) ⌝ }
 {
     write_record(words, w, 0, 0, 0, 0, 0, 0, 0);
-    Answer { code: 16 + number, value: 0, steps: steps + 1 }
+    Answer { code: 16 + number, value: 0, steps: steps + 1, stamped: 0, operator: 0 }
 }

@@ -9,7 +9,7 @@ use native.Mathlib.Omega.{arith}
 use borrow.Author.Tests.{lt-ltb, le-ltb, ltb-false, leb-false, eq-eqb, ne-eqb, eqb-true}
 use Rattle.definitions.specs.declared.Answer.{Answer}
 use Rattle.definitions.specs.declared.PhaseRow.{PhaseRow}
-use Rattle.definitions.specs.Cells.{Cells, cells-of, items-at, nodes-at, needed, counter-limit, counter, items, used, given-back, phase, steps, item, old, new, handle, noted, node, new-node, seen}
+use Rattle.definitions.specs.Cells.{node-words, Cells, cells-of, items-at, nodes-at, needed, counter-limit, counter, items, used, given-back, phase, steps, item, old, new, handle, noted, node, new-node, seen}
 use Rattle.definitions.specs.Phases.{row-of}
 use Rattle.definitions.specs.Damage.{any-of, outside, sizes-outside, header-tests, header-damaged-at, header-damaged, bad-item, bad-value, bad-handle, bad-node, inside-item, sum, total-tests, arguments-damaged, keeps-node, keeps-new-node, kept-tests, kept-damaged, running-damaged, worker-damaged, item-damaged}
 use Rattle.tables.specs.Ranges.{none-of, some-of, neither}
@@ -30,7 +30,7 @@ pub record Header (ws : List ℕ) : Type 0 where
   pub items : getD ws 6 0 ≤ getD ws 1 0
   pub used : getD ws 7 0 ≤ getD ws 2 0
   pub given-back : getD ws 8 0 ≤ getD ws 7 0
-  pub long : 16 + 16 * getD ws 0 0 + 4 * getD ws 1 0 + 3 * getD ws 2 0 ≤ length ws
+  pub long : 16 + 16 * getD ws 0 0 + 4 * getD ws 1 0 + node-words * getD ws 2 0 ≤ length ws
 
 pub header-sound : (ws : List ℕ) → header-damaged ws ≡ false → Header ws
 unfolding header-damaged-at

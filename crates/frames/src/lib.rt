@@ -6,7 +6,7 @@ ghost use lib.Seq.{sets};
 ghost use Rattle.frames.specs.Lines.{line-length, after-line};
 ghost use Rattle.frames.specs.LineLaws.{Before};
 ghost use Rattle.frames.specs.Frames.{number, framed};
-ghost use Rattle.frames.specs.AnswerLines.{hex, answer-line};
+ghost use Rattle.frames.specs.AnswerLines.{hex, answer-length, answer-line};
 ghost use Rattle.frames.specs.AnswerLines.{glyph as glyph-of};
 ghost use Rattle.frames.specs.Frames.{digit as digit-of, frame as frame-of};
 
@@ -340,9 +340,12 @@ fn put_large(out: &mut [u8], at: usize, value: u64)
     put_four(out, at + 12, value);
 }
 
+// How many bytes an answer line has.
+pub const ANSWER_LENGTH: usize = 23;
+
 // The answer line of an answer, stored from a place on.
 pub fn put_answer(out: &mut [u8], at: usize, answer: Answer)
-    requires { ⌜ at + 23 ≤ length (now out) ⌝ }
+    requires { ⌜ at + answer-length ≤ length (now out) ⌝ }
     ensures { λ _. ⌜ now (out .exit) ≡ sets (now (out .entry)) at (answer-line answer) ⌝ }
 {
     put_two(out, at, answer.code as u64);

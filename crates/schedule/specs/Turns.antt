@@ -1,6 +1,6 @@
 -- What one turn of the program does, up to the operating system's reading and writing.
 use mathlib.Core.Path.{_≡_, refl, sym, ap, subst, _∙_}
-use Prim.Native.Nat.{ℕ, zero, suc, _-_, _<_, _≤_}
+use Prim.Native.Nat.{ℕ, zero, suc, _*_, _-_, _<_, _≤_}
 use mathlib.Core.Bool.{true, false, true≢false}
 use mathlib.Core.List.{List, _++_}
 use native.Mathlib.Omega.{arith}
@@ -10,9 +10,14 @@ use lib.IntN.{ℤ, pos, negsuc}
 use lib.Signed.{ltZ}
 use lib.Seq.{take-at, length-take-le}
 use Rattle.io.specs.Counts.{clamped}
+use Rattle.frames.specs.AnswerLines.{answer-length}
 use Rattle.text.specs.declared.Kept.{Kept}
 use Rattle.text.specs.Feeding.{Piece, Last}
 use Rattle.schedule.specs.declared.Turn.{Turn}
+
+-- How many bytes the output has: an answer line for each byte of the text's buffer, which may be a line feed.
+abbrev pub out-length : ℕ
+out-length = 16384 * answer-length
 
 -- What a read that answered `got` comes to, into the bytes z after the k that are kept of an unfinished line. Where it failed: no answer, and words
 -- and output are as they were. At the end of the input: the answer of the last line stands at the front of the output. Else the answers of all whole

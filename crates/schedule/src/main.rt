@@ -8,8 +8,11 @@ ghost use mathlib.Core.List.{_++_};
 ghost use lib.ListN.{length, take, drop};
 ghost use Rattle.text.specs.Feeding.{Piece, Last};
 ghost use Rattle.text.specs.Replies.{lent};
-ghost use Rattle.schedule.specs.Turns.{After, Turned};
+ghost use Rattle.schedule.specs.Turns.{out-length, After, Turned};
 ghost use Rattle.schedule.specs.Sessions.{Ran};
+
+// An answer line for each byte read.
+const OUT_LENGTH: usize = 16384 * frames::ANSWER_LENGTH;
 
 // What a turn came to: how many bytes wait for their line feed, how many bytes of answers were written, and whether the input goes on.
 struct Turn {
@@ -29,7 +32,7 @@ fn write_answers(answers: &[u8]) -> bool {
 
 // At the end of the input a last line may lack its line feed.
 fn finish(bytes: &[u8], words: &mut [u32], out: &mut [u8]) -> usize
-    requires { ⌜ length (now out) ≡ 376832 ⌝ }
+    requires { ⌜ length (now out) ≡ out-length ⌝ }
     ensures { λ r. ⌜ Last (now (bytes .entry)) (now (words .entry)) (now (out .entry)) r (now (words .exit)) (now (out .exit)) ⌝ }
 {
     let written = text::answer_last(bytes, words, out);
@@ -39,7 +42,7 @@ fn finish(bytes: &[u8], words: &mut [u32], out: &mut [u8]) -> usize
 
 // The whole lines of what is held and of what was read are answered, and the answers written.
 fn answer(bytes: &mut [u8], held: usize, count: usize, words: &mut [u32], out: &mut [u8]) -> Turn
-    requires { ⌜ (length (now bytes) ≡ 16384) × (length (now out) ≡ 376832) × (held + count ≤ 16384) ⌝ }
+    requires { ⌜ (length (now bytes) ≡ 16384) × (length (now out) ≡ out-length) × (held + count ≤ 16384) ⌝ }
     ensures { λ r. ⌜ Piece (take held (now (bytes .entry)) ++ take count (drop held (now (bytes .entry)))) (now (words .entry)) (now (out .entry))
         (record { held = r .held; written = r .written }) (now (bytes .exit)) (now (words .exit)) (now (out .exit)) ⌝ }
 {
@@ -52,7 +55,7 @@ fn answer(bytes: &mut [u8], held: usize, count: usize, words: &mut [u32], out: &
 // What a read comes to that answered `got`: the whole lines are answered, at the end of the input (0) the last line. Where it failed nothing more is
 // answered, since what is held may be a part of a line.
 fn after_read(got: isize, bytes: &mut [u8], held: usize, words: &mut [u32], out: &mut [u8]) -> Turn
-    requires { ⌜ (length (now bytes) ≡ 16384) × (length (now out) ≡ 376832) × (held ≤ 65) ⌝ }
+    requires { ⌜ (length (now bytes) ≡ 16384) × (length (now out) ≡ out-length) × (held ≤ 65) ⌝ }
     ensures { λ r. ⌜ (r .held ≤ 65)
         × After got (take held (now (bytes .entry))) (drop held (now (bytes .entry))) (now (words .entry)) (now (out .entry))
         r (now (bytes .exit)) (now (words .exit)) (now (out .exit)) ⌝ }
@@ -71,7 +74,7 @@ fn after_read(got: isize, bytes: &mut [u8], held: usize, words: &mut [u32], out:
 
 // One read after what is held.
 fn take_turn(bytes: &mut [u8], held: usize, words: &mut [u32], out: &mut [u8]) -> Turn
-    requires { ⌜ (length (now bytes) ≡ 16384) × (length (now out) ≡ 376832) × (held ≤ 65) ⌝ }
+    requires { ⌜ (length (now bytes) ≡ 16384) × (length (now out) ≡ out-length) × (held ≤ 65) ⌝ }
     ensures { λ r. ⌜ (r .held ≤ 65)
         × Turned (take held (now (bytes .entry))) (now (words .entry)) (now (out .entry)) r (now (bytes .exit)) (now (words .exit)) (now (out .exit)) ⌝ }
 {
@@ -81,7 +84,7 @@ fn take_turn(bytes: &mut [u8], held: usize, words: &mut [u32], out: &mut [u8]) -
 
 // Turns until the input ends or cannot be read, or the output cannot be written.
 fn run(bytes: &mut [u8], words: &mut [u32], out: &mut [u8])
-    requires { ⌜ (length (now bytes) ≡ 16384) × (length (now out) ≡ 376832) ⌝ }
+    requires { ⌜ (length (now bytes) ≡ 16384) × (length (now out) ≡ out-length) ⌝ }
     ensures { λ _. ⌜ Ran (now (words .entry)) (now (words .exit)) ⌝ }
 {
     let mut held = 0;
@@ -102,10 +105,10 @@ fn text_buffer() -> [u8; 16384]
     [0; 16384]
 }
 
-fn out_buffer() -> [u8; 376832]
-    ensures { λ r. ⌜ 376832 ≡ length r ⌝ }
+fn out_buffer() -> [u8; OUT_LENGTH]
+    ensures { λ r. ⌜ out-length ≡ length r ⌝ }
 {
-    [0; 376832]
+    [0; OUT_LENGTH]
 }
 
 fn lent_words() -> [u32; 16384]

@@ -8,12 +8,12 @@ use borrow.Author.Tests.{lt-ltb}
 use lib.Dec.{ltb, leb, eqb}
 use lib.ListN.{getD}
 use Rattle.definitions.specs.declared.PhaseRow.{PhaseRow}
-use Rattle.definitions.specs.Cells.{Cells, needed, used, counter, counter-limit, node, new-node, seen}
+use Rattle.definitions.specs.Cells.{node-words, Cells, needed, used, counter, counter-limit, node, new-node, seen}
 use Rattle.definitions.specs.Damage.{any-of, any-from, header-tests, header-damaged-at, bad-node, bad-time, kept-damaged}
 
 abbrev pub node-outside : List ℕ → (n projects used counter : ℕ) → Bool
 node-outside ns n projects used counter =
-    (leb projects (getD ns (3 * n + 0) 0) || ltb used (getD ns (3 * n + 1) 0)) || (ltb counter (getD ns (3 * n + 2) 0) && not (eqb (getD ns (3 * n + 2) 0) 4294967295))
+    (leb projects (getD ns (node-words * n + 0) 0) || ltb used (getD ns (node-words * n + 1) 0)) || (ltb counter (getD ns (node-words * n + 2) 0) && not (eqb (getD ns (node-words * n + 2) 0) 4294967295))
 
 or-left : (a b : Bool) → (a || b) ≡ false → a ≡ false
 or-left true b e = e

@@ -1,7 +1,7 @@
 // The damage tests: each answers the definition of its name in definitions/specs/Damage.antt, without a branch where the words are there to read.
 use crate::fields::{
     BIRTH, COUNTER, COUNTER_LIMIT, GIVEN_BACK, HANDLE, HEAD, HEADER_WORDS, ITEM, ITEMS, ITEMS_LIMIT, ITEM_WORDS, NEW, NEW_NODE,
-    NODE, NODES_LIMIT, NOTED, OLD, OLDER, PHASE, PROJECT, PROJECTS, SEEN, STAMP, STEPS, SUM_HIGH, SUM_LOW, TBD, USED, VALUE,
+    NODE, NODES_LIMIT, NODE_WORDS, NOTED, OLD, OLDER, PHASE, PROJECT, PROJECTS, SEEN, STAMP, STEPS, SUM_HIGH, SUM_LOW, TBD, USED, VALUE,
     WORKERS, WORKER_WORDS,
 };
 use crate::nodes;
@@ -12,7 +12,7 @@ ghost use mathlib.Core.Bool.{_||_};
 ghost use Prim.Native.Nat.{ℕ, _+_, _*_, _<_, _≤_};
 ghost use lib.ListN.{length};
 ghost use lib.Dec.{ltb};
-ghost use Rattle.definitions.specs.Cells.{cells-at, needed, steps};
+ghost use Rattle.definitions.specs.Cells.{node-words, cells-at, needed, steps};
 ghost use Rattle.definitions.specs.Damage.{any-of, outside, sizes-outside, header-damaged-at, header-damaged, total-tests, arguments-damaged, kept-damaged, running-damaged, worker-damaged, item-damaged};
 ghost use Rattle.tables.specs.Ranges.{node-outside, kept-at};
 
@@ -33,7 +33,7 @@ pub fn sizes_beyond(p: u32, m: u32, n: u32, q: u32, c: u32) -> bool
 pub fn words_needed(p: u32, m: u32, n: u32) -> u64
     ensures { λ r. ⌜ r ≡ needed p m n ⌝ }
 {
-    16 + 16 * (p as u64) + 4 * (m as u64) + 3 * (n as u64)
+    16 + 16 * (p as u64) + 4 * (m as u64) + (NODE_WORDS as u64) * (n as u64)
 }
 
 fn header_beyond(count: usize, p: u32, m: u32, n: u32, q: u32, c: u32, counter: u32, items: u32, used: u32, back: u32) -> bool
@@ -202,9 +202,9 @@ pub fn item_is_damaged(words: &[u32], items_at: usize, i: usize) -> bool
 
 // All three words of node n, in the node part.
 pub fn node_is_damaged(nodes: &[u32], n: usize, projects: u32, used: u32, counter: u32) -> bool
-    requires { ⌜ 3 * n + 2 < length (now nodes) ⌝ }
+    requires { ⌜ node-words * n + 2 < length (now nodes) ⌝ }
     ensures { λ r. ⌜ r ≡ node-outside (now (nodes .entry)) n projects used counter ⌝ }
 {
-    let stamp = nodes[3 * n + STAMP];
-    (projects <= nodes[3 * n + VALUE]) | (used < nodes[3 * n + OLDER]) | ((counter < stamp) & (stamp != TBD))
+    let stamp = nodes[NODE_WORDS * n + STAMP];
+    (projects <= nodes[NODE_WORDS * n + VALUE]) | (used < nodes[NODE_WORDS * n + OLDER]) | ((counter < stamp) & (stamp != TBD))
 }

@@ -141,7 +141,7 @@ suffix-on text t h short e =
 -- one line more is answered
 pub going-on : (text ws₀ out₀ t ws out : List ℕ) (at room : ℕ) (ws′ out′ : List ℕ) → Going text ws₀ out₀ t ws out at room → 0 < room → has-feed t ≡ true
     → out′ ≡ sets out at (answer-line (replied ws (frame (first-line t)) .answer)) → ws′ ≡ replied ws (frame (first-line t)) .words → length ws′ ≡ length ws
-    → Going text ws₀ out₀ (after-line t) ws′ out′ (at + 23) (room - 1)
+    → Going text ws₀ out₀ (after-line t) ws′ out′ (at + answer-length) (room - 1)
 going-on text ws₀ out₀ t ws out at zero ws′ out′ g h f e d k = absurd (omega arith)
 going-on text ws₀ out₀ t ws out at (suc room) ws′ out′ g h f e d k =
     let less : suc room - 1 ≡ room = omega arith in
@@ -151,7 +151,7 @@ going-on text ws₀ out₀ t ws out at (suc room) ws′ out′ g h f e d k =
       = ap (answers ws) (up-to-line room t f) ∙ answers-one ws _ _
         ∙ ap (λ (l : List ℕ). answer-line answer ++ answers l (frames-up-to room (after-line t))) (sym d) in
     let long : length out′ ≡ length out = ap length e ∙ length-sets out at (answer-line answer) in
-    subst (λ (r : ℕ). Going text ws₀ out₀ (after-line t) ws′ out′ (at + 23) r) (sym less)
+    subst (λ (r : ℕ). Going text ws₀ out₀ (after-line t) ws′ out′ (at + answer-length) r) (sym less)
     (record {
     fits = omega (arith, g .fits);
     output-long = long ∙ g .output-long;
@@ -159,7 +159,7 @@ going-on text ws₀ out₀ t ws out at (suc room) ws′ out′ g h f e d k =
     suffix = suffix-on text t f (g .shorter) (g .suffix);
     shorter = omega (arith, g .shorter, length-split t f);
     writes =
-      ap (λ (l : List ℕ). sets l (at + 23) left) e
+      ap (λ (l : List ℕ). sets l (at + answer-length) left) e
       ∙ ap (λ (n : ℕ). sets (sets out at (answer-line answer)) (at + n) left) (sym (answer-line-length answer))
       ∙ sets-then out at (answer-line answer) left
       ∙ ap (sets out at) (sym same)
@@ -176,12 +176,12 @@ pub going-line : (text ws₀ out₀ t ws out : List ℕ) (at room : ℕ) (r ws�
     → (length t - length r ≡ 0 → ⊥) → getD t (length t - length r - 1) 0 ≡ feed
     → out′ ≡ sets out at (answer-line (replied ws (frame (take (length t - length r - 1) t)) .answer))
     → ws′ ≡ replied ws (frame (take (length t - length r - 1) t)) .words → length ws′ ≡ length ws
-    → Going text ws₀ out₀ r ws′ out′ (at + 23) (room - 1)
+    → Going text ws₀ out₀ r ws′ out′ (at + answer-length) (room - 1)
 going-line text ws₀ out₀ t ws out at room r ws′ out′ g h e some there o w k =
     let n : length t - length r ≡ taken t = ap (λ (l : List ℕ). length t - length l) e in
     let f : has-feed t ≡ true = feed-found t (omega arith) (ap (λ (m : ℕ). getD t (m - 1) 0) (sym n) ∙ there) in
     let line : take (length t - length r - 1) t ≡ first-line t = ap (λ (m : ℕ). take (m - 1) t) n ∙ line-taken t f in
-    subst (λ (l : List ℕ). Going text ws₀ out₀ l ws′ out′ (at + 23) (room - 1)) (sym e)
+    subst (λ (l : List ℕ). Going text ws₀ out₀ l ws′ out′ (at + answer-length) (room - 1)) (sym e)
     (going-on text ws₀ out₀ t ws out at room ws′ out′ g h f
     (o ∙ ap (λ (l : List ℕ). sets out at (answer-line (replied ws (frame l) .answer))) line)
     (w ∙ ap (λ (l : List ℕ). replied ws (frame l) .words) line) k)

@@ -18,7 +18,7 @@ use Rattle.text.specs.declared.Fed.{Fed}
 use Rattle.text.specs.declared.Kept.{Kept}
 use Rattle.text.specs.Replies.{replied, answers, words-after}
 use Rattle.text.specs.Feeding.{room-in, frames-up-to, left-after, Feeding, kept, frames-in, last-frame, Piece, Last}
-use Rattle.frames.specs.AnswerLines.{answer-line}
+use Rattle.frames.specs.AnswerLines.{answer-length, answer-line}
 
 -- ---- moving to the front, byte by byte
 
@@ -92,7 +92,7 @@ drop-take (suc n) (suc m) (x ∷ l) = drop-take n m l ∙ ap (λ (k : ℕ). take
   both-less : (n m : ℕ) → m - n ≡ suc m - suc n
   both-less n m = omega arith
 
-module _ (text : List ℕ) (count : ℕ) (ws out : List ℕ) (fed : Fed) (ws′ out′ : List ℕ) (inside : count ≤ length text) (room : 23 * length text ≤ length out)
+module _ (text : List ℕ) (count : ℕ) (ws out : List ℕ) (fed : Fed) (ws′ out′ : List ℕ) (inside : count ≤ length text) (room : answer-length * length text ≤ length out)
     (done : Feeding (take count text) ws out fed ws′ out′) where
   counted : length (take count text) ≡ count
   counted = length-take-le count text inside
@@ -147,7 +147,7 @@ last-none [] ws out h = record { writes = refl; counts = refl; leaves = refl }
 last-none (x ∷ t) ws out h = absurd (omega arith)
 
 pub last-one : (t ws out ws′ out′ : List ℕ) → (length t ≡ 0 → ⊥) → out′ ≡ sets out 0 (answer-line (replied ws (frame t) .answer)) → ws′ ≡ replied ws (frame t) .words
-    → Last t ws out 23 ws′ out′
+    → Last t ws out answer-length ws′ out′
 unfolding last-frame answers words-after
 last-one [] ws out ws′ out′ h e d = absurd (h refl)
 last-one (x ∷ t) ws out ws′ out′ h e d =
@@ -160,21 +160,21 @@ last-one (x ∷ t) ws out ws′ out′ h e d =
 
 -- ---- for the program: what is written fits the output, and little is kept
 
-answers-length : (ws : List ℕ) (fs : List Frame) → length (answers ws fs) ≡ 23 * length fs
+answers-length : (ws : List ℕ) (fs : List Frame) → length (answers ws fs) ≡ answer-length * length fs
 unfolding answers
 answers-length ws [] = refl
 answers-length ws (f ∷ fs) =
     let line = answer-line (replied ws f .answer) in
     let more = answers (replied ws f .words) fs in
-    let one : length (line ++ more) ≡ 23 + 23 * length fs
+    let one : length (line ++ more) ≡ answer-length + answer-length * length fs
       = length-append line more ∙ ap (λ (n : ℕ). n + length more) (answer-line-length (replied ws f .answer))
-        ∙ ap (λ (n : ℕ). 23 + n) (answers-length (replied ws f .words) fs) in
+        ∙ ap (λ (n : ℕ). answer-length + n) (answers-length (replied ws f .words) fs) in
     one ∙ times-suc (length fs)
   where
-  times-suc : (n : ℕ) → 23 + 23 * n ≡ 23 * suc n
+  times-suc : (n : ℕ) → answer-length + answer-length * n ≡ answer-length * suc n
   times-suc n = omega arith
 
-pub written-fits : (t ws out : List ℕ) (r : Kept) (text′ ws′ out′ : List ℕ) → Piece t ws out r text′ ws′ out′ → 23 * length t ≤ length out → r .written ≤ length out
+pub written-fits : (t ws out : List ℕ) (r : Kept) (text′ ws′ out′ : List ℕ) → Piece t ws out r text′ ws′ out′ → answer-length * length t ≤ length out → r .written ≤ length out
 unfolding frames-in
 written-fits t ws out r text′ ws′ out′ p h =
     omega (arith, p .counts, answers-length ws (map frame (whole-lines t)), length-map (whole-lines t) frame, whole-count t)
@@ -183,7 +183,7 @@ pub little-held : (t ws out : List ℕ) (r : Kept) (text′ ws′ out′ : List 
 unfolding kept
 little-held t ws out r text′ ws′ out′ p = omega (arith, p .holds, length-take 65 (unfinished t))
 
-pub last-fits : (t ws out : List ℕ) (r : ℕ) (ws′ out′ : List ℕ) → Last t ws out r ws′ out′ → r ≤ 23
+pub last-fits : (t ws out : List ℕ) (r : ℕ) (ws′ out′ : List ℕ) → Last t ws out r ws′ out′ → r ≤ answer-length
 unfolding last-frame
 last-fits t ws out r ws′ out′ p = omega (arith, p .counts, answers-length ws (map frame (last-line t)), length-map (last-line t) frame, one-at-most t)
   where

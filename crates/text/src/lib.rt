@@ -5,11 +5,11 @@ ghost use lib.ListN.{length, take, drop};
 ghost use lib.Seq.{sets, paste};
 ghost use Rattle.definitions.specs.Promises.{Done};
 ghost use Rattle.frames.specs.Frames.{frame};
-ghost use Rattle.frames.specs.AnswerLines.{answer-line};
+ghost use Rattle.frames.specs.AnswerLines.{answer-length, answer-line};
 ghost use Rattle.text.specs.Replies.{replied};
 ghost use Rattle.text.specs.Feeding.{Feeding, Piece, Last};
 use definitions::Answer;
-use frames::Frame;
+use frames::{Frame, ANSWER_LENGTH};
 
 // How many bytes of the text were taken, and how many of the output were written.
 pub struct Fed {
@@ -36,13 +36,13 @@ fn carry_out(words: &mut [u32], frame: Frame) -> Answer
         Frame::ReadSnapshot { worker, item, handle } => calls::start::start_read_snapshot(words, worker, item, handle),
         Frame::Total { worker, project, handle } => calls::start::start_total(words, worker, project, handle),
         Frame::Step { worker } => steps::step(words, worker),
-        Frame::Bad => Answer { code: 29, value: 0, steps: 0 },
+        Frame::Bad => Answer { code: 29, value: 0, steps: 0, stamped: 0, operator: 0 },
     }
 }
 
 // One line is answered, at a place of the output that has room.
 fn answer_one(line: &[u8], words: &mut [u32], out: &mut [u8], at: usize)
-    requires { ⌜ at + 23 ≤ length (now out) ⌝ }
+    requires { ⌜ at + answer-length ≤ length (now out) ⌝ }
     ensures { λ _. ⌜ (now (out .exit) ≡ sets (now (out .entry)) at (answer-line (replied (now (words .entry)) (frame (now (line .entry))) .answer)))
         × (now (words .exit) ≡ replied (now (words .entry)) (frame (now (line .entry))) .words) ⌝ }
 {
@@ -57,7 +57,7 @@ pub fn answer_lines(text: &[u8], words: &mut [u32], out: &mut [u8]) -> Fed
 {
     let mut left = text;
     let mut at = 0;
-    let mut room = out.len() / 23;
+    let mut room = out.len() / ANSWER_LENGTH;
     while room > 0 {
         let rest = frames::after_line(left);
         let n = left.len() - rest.len();
@@ -68,7 +68,7 @@ pub fn answer_lines(text: &[u8], words: &mut [u32], out: &mut [u8]) -> Fed
             return Fed { used: text.len() - left.len(), written: at };
         }
         answer_one(&left[..n - 1], words, out, at);
-        at += 23;
+        at += ANSWER_LENGTH;
         room -= 1;
         left = rest;
     }
@@ -89,7 +89,7 @@ fn to_front(text: &mut [u8], from: usize, count: usize)
 
 // Answers the whole lines of the first bytes of the text, and keeps what is left of them at the front, at most 65 bytes.
 pub fn answer_piece(text: &mut [u8], count: usize, words: &mut [u32], out: &mut [u8]) -> Kept
-    requires { ⌜ (count ≤ length (now text)) × (23 * length (now text) ≤ length (now out)) ⌝ }
+    requires { ⌜ (count ≤ length (now text)) × (answer-length * length (now text) ≤ length (now out)) ⌝ }
     ensures { λ r. ⌜ Piece (take count (now (text .entry))) (now (words .entry)) (now (out .entry)) r (now (text .exit)) (now (words .exit)) (now (out .exit)) ⌝ }
 {
     let fed = answer_lines(&text[..count], words, out);
@@ -106,12 +106,12 @@ pub fn answer_piece(text: &mut [u8], count: usize, words: &mut [u32], out: &mut 
 
 // Answers what is left at the end of the input: a last line may lack its line feed.
 pub fn answer_last(text: &[u8], words: &mut [u32], out: &mut [u8]) -> usize
-    requires { ⌜ 23 ≤ length (now out) ⌝ }
+    requires { ⌜ answer-length ≤ length (now out) ⌝ }
     ensures { λ r. ⌜ Last (now (text .entry)) (now (words .entry)) (now (out .entry)) r (now (words .exit)) (now (out .exit)) ⌝ }
 {
     if text.len() == 0 {
         return 0;
     }
     answer_one(text, words, out, 0);
-    23
+    ANSWER_LENGTH
 }

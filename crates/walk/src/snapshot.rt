@@ -6,14 +6,14 @@ use tables::nodes;
 ghost use mathlib.Core.Path.{_≡_};
 ghost use Prim.Native.Nat.{_+_, _*_, _<_};
 ghost use lib.ListN.{length};
-ghost use Rattle.definitions.specs.Cells.{cells-at};
+ghost use Rattle.definitions.specs.Cells.{node-words, cells-at};
 ghost use Rattle.definitions.specs.Lines.{to-older};
 ghost use Rattle.definitions.specs.Promises.{Met};
 ghost use Rattle.endings.specs.Stepped.{Ready, Has-node, Has-older, node-tested};
 
 // Line 34's test of a node, in the node part: its stamp, and the one word that it reads after that.
 pub fn tested_is_damaged(nodes: &[u32], n: usize, handle: u32, projects: u32, used: u32, counter: u32) -> bool
-    requires { ⌜ 3 * n + 2 < length (now nodes) ⌝ }
+    requires { ⌜ node-words * n + 2 < length (now nodes) ⌝ }
     ensures { λ r. ⌜ r ≡ node-tested (now (nodes .entry)) n handle projects used counter ⌝ }
 {
     let stamp = nodes::word(nodes, n, STAMP);

@@ -1,3 +1,4 @@
+use Rattle.definitions.specs.Cells.{node-words}
 use Rattle.tables.specs.Part.{length-back}
 use mathlib.Core.Path.{_≡_, _∙_, ap, sym}
 use mathlib.Core.List.{[], _∷_, _++_, append-assoc}
@@ -123,20 +124,20 @@ add-go-on c = search needs
 -- src/lib.rt:101:5
 go-on-requires : tie.Need-go-on-requires
 go-on-requires c κs = let x = c .before .before .before .before .before .before .before .before .before .before .before .before .before .args in let ws = x .words .now in
-    let l = length-back ws (x .nodes-at) ((3 * getD ws (16 + 16 * x .w + 9) 0 + 1) gets getD ws 8 0 ∷ []) (c .before .before .before .write .ensures) in
+    let l = length-back ws (x .nodes-at) ((node-words * getD ws (16 + 16 * x .w + 9) 0 + 1) gets getD ws 8 0 ∷ []) (c .before .before .before .write .ensures) in
     (simp length-set (omega (arith, l)), omega arith)
 
 -- src/lib.rt:86:1
 same-length-2 : tie.Need-same-length-2
 same-length-2 c = let x = c .before .before .before .before .before .before .before .before .before .before .before .before .before .before .before .before .args in let ws = x .words .now in
-    let l = length-back ws (x .nodes-at) ((3 * getD ws (16 + 16 * x .w + 9) 0 + 1) gets getD ws 8 0 ∷ []) (c .before .before .before .before .before .before .write .ensures) in
+    let l = length-back ws (x .nodes-at) ((node-words * getD ws (16 + 16 * x .w + 9) 0 + 1) gets getD ws 8 0 ∷ []) (c .before .before .before .before .before .before .write .ensures) in
     ap length (c .before .before .go-on .ensures .1) ∙ simp length-set l
 
 -- src/lib.rt:86:1
 returns-2 : tie.Need-returns-2
 unfolding line-50
 returns-2 c = let x = c .before .before .before .before .before .before .before .before .before .before .before .before .before .before .before .before .args in let ws = x .words .now in
-    let f = write-part ws (x .nodes-at) ((3 * getD ws (16 + 16 * x .w + 9) 0 + 1) gets getD ws 8 0 ∷ []) (c .before .before .before .before .before .before .write .ensures) in
+    let f = write-part ws (x .nodes-at) ((node-words * getD ws (16 + 16 * x .w + 9) 0 + 1) gets getD ws 8 0 ∷ []) (c .before .before .before .before .before .before .write .ensures) in
     met-else _ (sym (c .before .before .before .before .before .before .before .before .before .returned-is-damaged .ensures) ∙ c .before .before .before .before .before .before .before .before .if1 .left) (record { answers = c .before .before .go-on .ensures .0; leaves = rw f at (c .before .before .go-on .ensures .1) })
 
 pub line-50-spec : {M : Type 1} → statement M

@@ -3,6 +3,7 @@ use mathlib.Core.List.{[], _∷_}
 use Prim.Native.Nat.{_+_, _*_}
 use lib.ListN.{length, getD}
 use borrow.Author.Tests.{eq-eqb, ne-eqb}
+use Rattle.definitions.specs.Cells.{node-words}
 use Rattle.tables.specs.Part.{write-part, _gets_}
 use Rattle.definitions.specs.Lines.{line-22}
 use Rattle.endings.specs.Laws.{met-if, met-else, refuses, node-word}
@@ -157,7 +158,7 @@ returns-2 : tie.Need-returns-2
 unfolding line-22
 returns-2 c = let x = c .before .before .before .before .before .before .before .before .before .before .before .before .before .before .before .before .before .before .before .before .args in let ws = x .words .now in let n = getD ws (16 + 16 * x .w + 8) 0 in
     let e = node-word ws (x .nodes-at) n 2 (c .before .before .before .before .before .before .before .before .before .before .before .before .word .ensures) in
-    let f = write-part ws (x .nodes-at) ((3 * n + 2) gets getD ws (16 + 16 * x .w + 10) 0 ∷ []) (c .before .before .before .before .before .before .write .ensures) in
+    let f = write-part ws (x .nodes-at) ((node-words * n + 2) gets getD ws (16 + 16 * x .w + 10) 0 ∷ []) (c .before .before .before .before .before .before .write .ensures) in
     rw (← e) (met-else _ (sym (c .before .before .before .before .before .before .before .before .before .before .bad-stamp .ensures) ∙ c .before .before .before .before .before .before .before .before .before .if1 .left) (rw (eq-eqb _ _ (c .before .before .before .before .before .before .before .before .if2 .taken)) (record { answers = c .before .before .go-on .ensures .0; leaves = rw f at (c .before .before .go-on .ensures .1) })))
 
 -- src/lib.rt:83:21

@@ -3,6 +3,7 @@ use Prim.Native.Nat.{_+_, _*_, _≤_}
 use native.Mathlib.Omega.{arith}
 use lib.ListN.{length, take, length-take}
 use lib.Seq.{length-take-le, take-add}
+use Rattle.frames.specs.AnswerLines.{answer-length}
 use Rattle.text.specs.PieceLaws.{written-fits}
 use Rattle.schedule.specs.Turns.{piece-of}
 use borrow.Author.Needs.{needs}
@@ -25,7 +26,7 @@ answer-piece-requires c κs = search needs
 slice-reshare-prefix-write-answers : tie.Need-slice-reshare-prefix-write-answers
 slice-reshare-prefix-write-answers c =
     let a = c .before .before .before .before .before .before .before .before .before .before .before .before .before .args in
-    let r : 23 * length (take (a .held + a .count) (a .bytes .now)) ≤ length (a .out .now) = simp length-take (omega (arith, c .before .before .before .before .before .before .before .before .before .before .before .before .before .pre)) in
+    let r : answer-length * length (take (a .held + a .count) (a .bytes .now)) ≤ length (a .out .now) = simp length-take (omega (arith, c .before .before .before .before .before .before .before .before .before .before .before .before .before .pre)) in
     let f = written-fits _ _ _ _ _ _ _ (c .before .before .before .before .before .before .answer-piece .ensures) r in
     let k = c .before .before .before .before .before .before .answer-piece .kept .1 .1 .1 .0 in
     omega arith
@@ -34,7 +35,7 @@ slice-reshare-prefix-write-answers c =
 slice-aggregate-write-answers : tie.Need-slice-aggregate-write-answers
 slice-aggregate-write-answers c =
     let a = c .before .before .before .before .before .before .before .before .before .before .before .before .before .before .args in
-    let r : 23 * length (take (a .held + a .count) (a .bytes .now)) ≤ length (a .out .now) = simp length-take (omega (arith, c .before .before .before .before .before .before .before .before .before .before .before .before .before .before .pre)) in
+    let r : answer-length * length (take (a .held + a .count) (a .bytes .now)) ≤ length (a .out .now) = simp length-take (omega (arith, c .before .before .before .before .before .before .before .before .before .before .before .before .before .before .pre)) in
     let f = written-fits _ _ _ _ _ _ _ (c .before .before .before .before .before .before .before .answer-piece .ensures) r in
     let k = c .before .before .before .before .before .before .before .answer-piece .kept .1 .1 .1 .0 in
     sym (length-take-le _ _ (omega arith))

@@ -1,6 +1,7 @@
 use mathlib.Core.Path.{_≡_}
 use Prim.Native.Nat.{_≤_}
 use lib.ListN.{length, take}
+use Rattle.schedule.specs.Turns.{out-length}
 use Rattle.schedule.specs.Sessions.{Session, session-start, next-turn, last-turn, turns-spent}
 use borrow.Author.Needs.{needs}
 use borrow.Author.Tests.{not-false}
@@ -11,7 +12,7 @@ use Rattle.schedule.proofs.run.Lts as lts
 use Rattle.schedule.proofs.take_turn.Reads as take-turn-reads
 
 abbrev Inv-loop : tie.InvT-loop
-Inv-loop bytes₀ words₀ out₀ held₀ turns₀ bytes words out held turns = (length bytes ≡ 16384) × (length out ≡ 376832) × (held ≤ 65) × (length words ≡ length words₀) × Session words₀ words (take held bytes)
+Inv-loop bytes₀ words₀ out₀ held₀ turns₀ bytes words out held turns = (length bytes ≡ 16384) × (length out ≡ out-length) × (held ≤ 65) × (length words ≡ length words₀) × Session words₀ words (take held bytes)
 
 abbrev μ-loop : tie.MeasureT-loop
 μ-loop bytes₀ words₀ out₀ held₀ turns₀ bytes words out held turns = turns

@@ -8,7 +8,7 @@ use Rattle.endings.specs.Laws.{met-if, met-else, refuses, node-word}
 use mathlib.Core.Bool.{true, false}
 use Rattle.endings.specs.Stepped.{Can-take}
 use Rattle.tables.specs.Part.{write-part, length-back, _gets_}
-use Rattle.definitions.specs.Cells.{Assignment, _≔_, cells-at, written, phase, steps, new, node, new-node, value, older, stamp}
+use Rattle.definitions.specs.Cells.{node-words, Assignment, _≔_, cells-at, written, phase, steps, new, node, new-node, value, older, stamp}
 use Rattle.definitions.specs.Lines.{line-45, no-node, node-to-take, taking}
 use Rattle.endings.specs.Laws.{outside-is, taken-then, taken-told, taken-none, can-take, taken-fits, length-written}
 use native.Mathlib.Omega.{arith}
@@ -224,14 +224,14 @@ add-go-on c = search needs
 go-on-requires : tie.Need-go-on-requires
 go-on-requires c κs = let x = c .before .before .before .before .before .before .before .before .before .before .before .before .before .before .before .before .before .before .before .before .before .before .before .args in let ws = x .words .now in let t = c .before .before .before .before .before .before .before .before .before .before .before .before .before .next-node .result in
     let l = as-many (c .before .before .before .before .before .before .before) in
-    let k = length-back (c .before .before .before .before .before .before .before .take-node .last .0) (x .nodes-at) ((3 * t + 0) gets getD ws (16 + 16 * x .w + 4) 0 ∷ (3 * t + 1) gets (getD ws (16 + 16 * x .w + 8) 0 + 1) ∷ (3 * t + 2) gets 4294967295 ∷ []) (c .before .before .before .make .ensures) in
+    let k = length-back (c .before .before .before .before .before .before .before .take-node .last .0) (x .nodes-at) ((node-words * t + 0) gets getD ws (16 + 16 * x .w + 4) 0 ∷ (node-words * t + 1) gets (getD ws (16 + 16 * x .w + 8) 0 + 1) ∷ (node-words * t + 2) gets 4294967295 ∷ []) (c .before .before .before .make .ensures) in
     (simp length-set (omega (arith, l, k, c .before .before .before .before .before .before .before .before .before .before .before .before .before .before .before .before .before .before .before .before .before .before .before .pre .0)), c .before .before .before .before .before .before .before .before .before .before .before .before .before .before .before .before .before .before .before .before .before .before .before .pre .0 .steps)
 
 -- src/lib.rt:51:1
 same-length-3 : tie.Need-same-length-3
 same-length-3 c = let x = c .before .before .before .before .before .before .before .before .before .before .before .before .before .before .before .before .before .before .before .before .before .before .before .before .before .before .args in let ws = x .words .now in let t = c .before .before .before .before .before .before .before .before .before .before .before .before .before .before .before .before .next-node .result in
     let l = as-many (c .before .before .before .before .before .before .before .before .before .before) in
-    let k = length-back (c .before .before .before .before .before .before .before .before .before .before .take-node .last .0) (x .nodes-at) ((3 * t + 0) gets getD ws (16 + 16 * x .w + 4) 0 ∷ (3 * t + 1) gets (getD ws (16 + 16 * x .w + 8) 0 + 1) ∷ (3 * t + 2) gets 4294967295 ∷ []) (c .before .before .before .before .before .before .make .ensures) in
+    let k = length-back (c .before .before .before .before .before .before .before .before .before .before .take-node .last .0) (x .nodes-at) ((node-words * t + 0) gets getD ws (16 + 16 * x .w + 4) 0 ∷ (node-words * t + 1) gets (getD ws (16 + 16 * x .w + 8) 0 + 1) ∷ (node-words * t + 2) gets 4294967295 ∷ []) (c .before .before .before .before .before .before .make .ensures) in
     ap length (c .before .before .go-on .ensures .1) ∙ simp length-set (k ∙ l)
 
 -- src/lib.rt:51:1
@@ -240,7 +240,7 @@ unfolding line-45
 returns-3 c = let x = c .before .before .before .before .before .before .before .before .before .before .before .before .before .before .before .before .before .before .before .before .before .before .before .before .before .before .args in let ws = x .words .now in let a = x .items-at in let b = x .nodes-at in let m = cells-at a b ws in let t = c .before .before .before .before .before .before .before .before .before .before .before .before .before .before .before .before .next-node .result in
     let e = c .before .before .before .before .before .before .before .before .before .before .before .before .before .before .before .before .next-node .ensures a b in
     let d = sym (outside-is a b ws t) ∙ sym (c .before .before .before .before .before .before .before .before .before .before .before .before .before .node-is-damaged .ensures) ∙ c .before .before .before .before .before .before .before .before .before .before .before .before .if2 .left in
-    let f = write-part (c .before .before .before .before .before .before .before .before .before .before .take-node .last .0) b ((3 * t + 0) gets m (new (x .w)) ∷ (3 * t + 1) gets (m (node (x .w)) + 1) ∷ (3 * t + 2) gets 4294967295 ∷ []) (c .before .before .before .before .before .before .make .ensures) in
+    let f = write-part (c .before .before .before .before .before .before .before .before .before .before .take-node .last .0) b ((node-words * t + 0) gets m (new (x .w)) ∷ (node-words * t + 1) gets (m (node (x .w)) + 1) ∷ (node-words * t + 2) gets 4294967295 ∷ []) (c .before .before .before .before .before .before .make .ensures) in
     met-else _ (taken-told m (x .w) (left (c .before .before .before .before .before .before .before .before .before .before .before .before .before .before .before .before .before .before)) (rw e at d)) (met-else _ (left (c .before .before .before .before .before .before .before .before .before .before .before .before .before .before .before .before .before .before)) (record {
       answers = c .before .before .go-on .ensures .0;
       leaves = rw (append-assoc) (taken-then a b ws (taking m) (λ (n : ℕ). value n ≔ m (new (x .w)) ∷ older n ≔ (m (node (x .w)) + 1) ∷ stamp n ≔ 4294967295 ∷ new-node (x .w) ≔ n ∷ phase (x .w) ≔ (m (phase (x .w)) + 1) ∷ steps (x .w) ≔ (m (steps (x .w)) + 1) ∷ [])

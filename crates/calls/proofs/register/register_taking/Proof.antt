@@ -4,7 +4,7 @@ use Prim.Native.Nat.{ℕ, _+_, _*_, _-_, _<_, _≤_}
 use lib.ListN.{length, getD, length-set, length-take, length-drop}
 use native.Mathlib.Omega.{arith}
 use Rattle.tables.specs.Part.{write-part, length-back, back, _gets_}
-use Rattle.definitions.specs.Cells.{Assignment, _≔_, cells-of, items-at, nodes-at, counter, items, value, older, stamp, head, birth, size}
+use Rattle.definitions.specs.Cells.{node-words, Assignment, _≔_, cells-of, items-at, nodes-at, counter, items, value, older, stamp, head, birth, size}
 use Rattle.definitions.specs.Lines.{taking}
 use Rattle.endings.specs.Laws.{taken-then, taken-fits, length-written}
 use borrow.Author.Needs.{needs}
@@ -30,7 +30,7 @@ as-many c = let ws = c .before .before .before .before .before .before .before .
 
 as-long : (c : tie.After-make) → length (back (c .before .before .before .before .take-node .last .0) (nodes-at (c .before .before .before .before .before .before .before .before .before .before .before .before .before .args .words .now)) (c .make .last .0)) ≡ length (c .before .before .before .before .before .before .before .before .before .before .before .before .before .args .words .now)
 as-long c = let x = c .before .before .before .before .before .before .before .before .before .before .before .before .before .args in let ws = x .words .now in let t = c .before .before .before .before .before .before .next-node .result in
-    length-back (c .before .before .before .before .take-node .last .0) (nodes-at ws) ((3 * t + 0) gets x .value ∷ (3 * t + 1) gets 0 ∷ (3 * t + 2) gets getD ws 5 0 ∷ []) (c .make .ensures) ∙ as-many (c .before .before .before .before)
+    length-back (c .before .before .before .before .take-node .last .0) (nodes-at ws) ((node-words * t + 0) gets x .value ∷ (node-words * t + 1) gets 0 ∷ (node-words * t + 2) gets getD ws 5 0 ∷ []) (c .make .ensures) ∙ as-many (c .before .before .before .before)
 
 -- src/register.rt:24:51
 slice-read-items-at : tie.Need-slice-read-items-at
@@ -171,7 +171,7 @@ same-length c = simp length-set (as-long (c .before .before))
 -- src/register.rt:20:1
 returns : tie.Need-returns
 returns c = let x = c .before .before .before .before .before .before .before .before .before .before .before .before .before .before .before .args in let ws = x .words .now in let a = items-at ws in let b = nodes-at ws in let m = cells-of ws in let t = c .before .before .before .before .before .before .before .before .next-node .result in
-    let f = write-part (c .before .before .before .before .before .before .take-node .last .0) b ((3 * t + 0) gets x .value ∷ (3 * t + 1) gets 0 ∷ (3 * t + 2) gets getD ws 5 0 ∷ []) (c .before .before .make .ensures) in
+    let f = write-part (c .before .before .before .before .before .before .take-node .last .0) b ((node-words * t + 0) gets x .value ∷ (node-words * t + 1) gets 0 ∷ (node-words * t + 2) gets getD ws 5 0 ∷ []) (c .before .before .make .ensures) in
     record {
       answers = refl;
       leaves = taken-then a b ws (taking m) (λ (n : ℕ). value n ≔ x .value ∷ older n ≔ 0 ∷ stamp n ≔ m counter ∷ head (m items) ≔ n ∷ birth (m items) ≔ m counter ∷ size (m items) ≔ x .size ∷ items ≔ (m items + 1) ∷ [])

@@ -6,6 +6,7 @@ use Prim.Native.Nat.{_+_, _*_}
 use mathlib.Core.Bool.{Bool, true, false, _||_}
 use borrow.Author.Tests.{lt-ltb, le-ltb}
 use borrow.Author.Needs.{needs}
+use Rattle.definitions.specs.Cells.{node-words}
 use Rattle.walk.proofs.snapshot.tested_is_damaged.Statement.{statement}
 use Rattle.walk.proofs.snapshot.tested_is_damaged.Tie as tie
 use Rattle.walk.proofs.snapshot.tested_is_damaged.Reads as reads
@@ -31,7 +32,7 @@ word-requires-2 c κs = search needs
 
 -- src/snapshot.rt:22:9
 returns : tie.Need-returns
-returns c = let x = c .before .before .before .before .args in let ns = x .nodes .now in let s = getD ns (3 * x .n + 2) 0 in let o = getD ns (3 * x .n + 1) 0 in
+returns c = let x = c .before .before .before .before .args in let ns = x .nodes .now in let s = getD ns (node-words * x .n + 2) 0 in let o = getD ns (node-words * x .n + 1) 0 in
     rw (c .word2 .ensures, c .before .before .word .ensures, ap (λ (k : ℕ). ltb (x .handle) k) (sym (c .before .before .word .ensures)) ∙ lt-ltb _ _ (c .before .if1 .taken))
     (no-more (ltb (x .counter) s || (eqb o 0 || ltb (x .used) o)))
 
@@ -41,9 +42,9 @@ word-requires-3 c κs = search needs
 
 -- src/snapshot.rt:15:1
 returns-2 : tie.Need-returns-2
-returns-2 c = let x = c .before .before .before .before .args in let ns = x .nodes .now in let s = getD ns (3 * x .n + 2) 0 in
+returns-2 c = let x = c .before .before .before .before .args in let ns = x .nodes .now in let s = getD ns (node-words * x .n + 2) 0 in
     rw (c .word3 .ensures, c .before .before .word .ensures, ap (λ (k : ℕ). ltb (x .handle) k) (sym (c .before .before .word .ensures)) ∙ le-ltb _ _ (c .before .if1 .left))
-    (passed (ltb (x .counter) s) (leb (x .projects) (getD ns (3 * x .n + 0) 0)))
+    (passed (ltb (x .counter) s) (leb (x .projects) (getD ns (node-words * x .n + 0) 0)))
 
 pub tested-is-damaged-spec : {M : Type 1} → statement M
 tested-is-damaged-spec =
