@@ -14,18 +14,19 @@ use Rattle.history.specs.Tools.{by-eq, by-test, Split, split}
 use Rattle.history.specs.Notes.{Note, if-accepted, start-of, ledger, snapshot, object-at}
 use Rattle.history.specs.Notes as Notes
 use Rattle.history.specs.NoteParts.{note-tag}
-use Rattle.history.specs.Statements.{In, Free, items-now, Asked}
+use Rattle.history.specs.Statements.{In, Free, object-now, Asked}
 use Rattle.history.specs.Effects.{effects}
-use Rattle.history.specs.Machine.{Limits, Operation, register, v-read, v-cas, take-snapshot, read-snapshot, total, Worker, idle, busy,
-    Catalogue, Move, unless, is-idle, start-refusals, worker-refusals, begun, starting, move, reply, after-calls}
+use Rattle.history.specs.Machine.{Event, Limits, Operation, register, v-read, v-cas, take-snapshot, read-snapshot, total, Worker, idle, busy,
+    Catalogue, Move, unless, is-idle, start-refusals, worker-refusals, begun, starting, move, reply, after-events}
 use Rattle.history.specs.Places.{InOperation, WorkerRight, Invariant}
 use Rattle.history.specs.Run.{Passed, run-right}
 use Rattle.history.specs.NodeCount.{limits-kept}
 use Rattle.history.specs.MachineNotes.{machine-note, machine-notes}
 use Rattle.history.specs.LedgerRight.{InLedger, Runs, Agrees, agrees}
 use Rattle.history.specs.EffectsRight.{left-then}
+use Rattle.history.specs.Definition1.{Born}
 use Rattle.history.specs.EffectsRun.{Effected, effected}
-use Rattle.history.specs.BornItems.{known-items}
+use Rattle.history.specs.BornItems.{is-registered, born-exactly}
 
 -- ---- accepted where no refusal applies
 
@@ -96,20 +97,17 @@ module _ (s : Catalogue) (invariant : Invariant s) (run : List Note) (A : Agrees
                 subst (λ (x : Worker). WorkerRight (s .now) (s .memory) (s .fate) (s .place) w x) e (invariant .workers w) in
           free o (told .2) (A .fate o .worker ∙ its .worker)
 
-  -- a registered item was born before now
-  pub registered-known : (i : ℕ) → i < s .memory .items → i < items-now run (effects run)
-  registered-known i p = at (split i (items-now run (effects run)))
+  -- a registered item is born
+  pub registered-born : (i : ℕ) → i < s .memory .items → Born i (object-now run (effects run))
+  registered-born i p = born-exactly s invariant run E i (length run) .1
+      (there, omega (arith, A .now, invariant .kept .memory .item i .effect-before-22 0 there, invariant .kept .memory .item i .stamped-past 0 there))
     where
       there : 0 < s .memory .item i .valid
       there = invariant .kept .memory .registered i p
-      at : Split i (items-now run (effects run)) → i < items-now run (effects run)
-      at (Split.less q) = q
-      at (Split.more q) = absurd (omega (arith, known-items s invariant run E (length run) .2 i q p, A .now,
-        invariant .kept .memory .item i .effect-before-22 0 there, invariant .kept .memory .item i .stamped-past 0 there))
 
-  -- an item known at some time is registered
-  known-registered : (i τ : ℕ) → i < object-at τ (effects run) .items → i < s .memory .items
-  known-registered i τ p = omega (arith, known-items s invariant run E τ .0)
+  -- an item born at some time is registered
+  born-registered : (i τ : ℕ) → Born i (object-at τ (effects run)) → i < s .memory .items
+  born-registered i τ b = is-registered s invariant run E i (born-exactly s invariant run E i τ .0 b .0)
 
   -- a handle that the counter left
   left-handle : (left h : ℕ) → In (snapshot left h) (effects run) → (h < s .memory .camera .counter) × (left ≡ s .memory .camera .left-at h)
@@ -117,32 +115,30 @@ module _ (s : Catalogue) (invariant : Invariant s) (run : List Note) (A : Agrees
 
   -- an item whose birth stamp is not above a handle that the counter left was born before that
   stamp-born : (i h : ℕ) → i < s .memory .items → h < s .memory .camera .counter → s .memory .item i .stamp 0 ≤ h →
-      i < object-at (s .memory .camera .left-at h) (effects run) .items
-  stamp-born i h p q r = at (split i (object-at (s .memory .camera .left-at h) (effects run) .items))
-    where
-      at : Split i (object-at (s .memory .camera .left-at h) (effects run) .items) → i < object-at (s .memory .camera .left-at h) (effects run) .items
-      at (Split.less u) = u
-      at (Split.more u) = absurd (omega (arith, known-items s invariant run E (s .memory .camera .left-at h) .2 i u p,
-        invariant .kept .memory .item i .counted 0 (invariant .kept .memory .registered i p) .ahead h r q))
-
-  born-stamp : (i h : ℕ) → i < object-at (s .memory .camera .left-at h) (effects run) .items → s .memory .item i .stamp 0 ≤ h
-  born-stamp i h p = at (split h (s .memory .item i .stamp 0))
+      Born i (object-at (s .memory .camera .left-at h) (effects run))
+  stamp-born i h p q r = born-exactly s invariant run E i (s .memory .camera .left-at h) .1
+      (there, omega (arith, invariant .kept .memory .item i .counted 0 there .ahead h r q))
     where
       there : 0 < s .memory .item i .valid
-      there = invariant .kept .memory .registered i (known-registered i (s .memory .camera .left-at h) p)
+      there = invariant .kept .memory .registered i p
+
+  born-stamp : (i h : ℕ) → Born i (object-at (s .memory .camera .left-at h) (effects run)) → s .memory .item i .stamp 0 ≤ h
+  born-stamp i h p = at (split h (s .memory .item i .stamp 0))
+    where
+      first : (0 < s .memory .item i .valid) × (s .memory .item i .effect-at 0 ≤ s .memory .camera .left-at h)
+      first = born-exactly s invariant run E i (s .memory .camera .left-at h) .0 p
       at : Split h (s .memory .item i .stamp 0) → s .memory .item i .stamp 0 ≤ h
       at (Split.more u) = u
-      at (Split.less u) = absurd (omega (arith, known-items s invariant run E (s .memory .camera .left-at h) .1 i p,
-        invariant .kept .memory .item i .counted 0 there .past h u))
+      at (Split.less u) = absurd (omega (arith, first .1, invariant .kept .memory .item i .counted 0 (first .0) .past h u))
 
   -- ---- refusals 6 to 9
 
   passed-asked : (op : Operation) → Passed (start-refusals (s .memory) op) → Asked run (effects run) (s .memory .limits .projects) op
   passed-asked (register i v z) x = x .0
-  passed-asked (v-read i) x = registered-known i (nleb→lt (s .memory .items) i (x .0))
+  passed-asked (v-read i) x = registered-born i (nleb→lt (s .memory .items) i (x .0))
   passed-asked (v-cas i old new) x =
       let both = neither (leb (s .memory .limits .projects) old) (leb (s .memory .limits .projects) new) (x .1 .0) in
-      (registered-known i (nleb→lt (s .memory .items) i (x .0)), nleb→lt (s .memory .limits .projects) old (both .0),
+      (registered-born i (nleb→lt (s .memory .items) i (x .0)), nleb→lt (s .memory .limits .projects) old (both .0),
         nleb→lt (s .memory .limits .projects) new (both .1))
   passed-asked take-snapshot x = tt
   passed-asked (read-snapshot i h) x =
@@ -155,16 +151,16 @@ module _ (s : Catalogue) (invariant : Invariant s) (run : List Note) (A : Agrees
 
   asked-passed : (op : Operation) → Asked run (effects run) (s .memory .limits .projects) op → Passed (start-refusals (s .memory) op)
   asked-passed (register i v z) x = absurd x
-  asked-passed (v-read i) x = (above (s .memory .items) i (known-registered i (length run) x), tt)
+  asked-passed (v-read i) x = (above (s .memory .items) i (born-registered i (length run) x), tt)
   asked-passed (v-cas i old new) x =
-      (above (s .memory .items) i (known-registered i (length run) (x .0)),
+      (above (s .memory .items) i (born-registered i (length run) (x .0)),
         (nor (leb (s .memory .limits .projects) old) (leb (s .memory .limits .projects) new) (above (s .memory .limits .projects) old (x .1))
           (above (s .memory .limits .projects) new (x .2)), tt))
   asked-passed take-snapshot x = tt
   asked-passed (read-snapshot i h) (left, taken, born) =
-      (above (s .memory .items) i (known-registered i left born), (above (s .memory .camera .counter) h (left-handle left h taken .0),
+      (above (s .memory .items) i (born-registered i left born), (above (s .memory .camera .counter) h (left-handle left h taken .0),
         (not-below h (s .memory .item i .stamp 0)
-          (born-stamp i h (subst (λ (τ : ℕ). i < object-at τ (effects run) .items) (left-handle left h taken .1) born)), tt)))
+          (born-stamp i h (subst (λ (τ : ℕ). Born i (object-at τ (effects run))) (left-handle left h taken .1) born)), tt)))
   asked-passed (total r h) (fits, left, taken) =
       (above (s .memory .limits .projects) r fits, (above (s .memory .camera .counter) h (left-handle left h taken .0), tt))
 
@@ -191,11 +187,11 @@ module _ (s : Catalogue) (invariant : Invariant s) (run : List Note) (A : Agrees
   accepts-note w (total r h) = accepts-start w (total r h)
 
 -- in every run of the machine
-pub accepts : (limits : Limits) (cs : List Call) (w : ℕ) (op : Operation) →
-    (machine-note (after-calls limits cs) (start-of w op) ≡ Notes.started w op) ↔ ((w < limits .workers) × Free (machine-notes limits cs) w
-      × Asked (machine-notes limits cs) (effects (machine-notes limits cs)) (limits .projects) op)
-accepts limits cs w op =
-    subst (λ (y : Limits). (machine-note (after-calls limits cs) (start-of w op) ≡ Notes.started w op) ↔ ((w < y .workers)
-        × Free (machine-notes limits cs) w × Asked (machine-notes limits cs) (effects (machine-notes limits cs)) (y .projects) op))
-      (limits-kept limits cs)
-      (accepts-note (after-calls limits cs) (run-right limits cs) (machine-notes limits cs) (agrees limits cs) (effected limits cs) w op)
+pub accepts : (limits : Limits) (es : List Event) (w : ℕ) (op : Operation) →
+    (machine-note (after-events limits es) (start-of w op) ≡ Notes.started w op) ↔ ((w < limits .workers) × Free (machine-notes limits es) w
+      × Asked (machine-notes limits es) (effects (machine-notes limits es)) (limits .projects) op)
+accepts limits es w op =
+    subst (λ (y : Limits). (machine-note (after-events limits es) (start-of w op) ≡ Notes.started w op) ↔ ((w < y .workers)
+        × Free (machine-notes limits es) w × Asked (machine-notes limits es) (effects (machine-notes limits es)) (y .projects) op))
+      (limits-kept limits es)
+      (accepts-note (after-events limits es) (run-right limits es) (machine-notes limits es) (agrees limits es) (effected limits es) w op)

@@ -1,20 +1,22 @@
 -- The items of Definition 1's object at a time are those born up to then.
 use mathlib.Core.Path.{_≡_, refl, ap, sym, subst}
+use mathlib.Core.Logic.{_↔_}
 use mathlib.Core.Bool.{Bool, true, false, cond}
 use mathlib.Core.List.{List}
 use Prim.Native.Nat.{ℕ, zero, suc, _+_, _≤_, _<_}
 use native.Mathlib.Omega.{arith}
 use lib.Dec.{leb}
 use Rattle.history.specs.Tools.{by-le, Split, split, Same, eq, ne, same?}
-use Rattle.history.specs.Definition1.{register, apply, empty}
-use Rattle.history.specs.Notes.{Note, object-at}
+use Rattle.history.specs.Definition1.{register, apply, empty, Born}
+use Rattle.history.specs.BornTold.{Told, told-born, born-told}
+use Rattle.history.specs.Notes.{Note, birth, time, object-at}
 use Rattle.history.specs.Effects.{effects}
 use Rattle.history.specs.Machine.{Catalogue}
 use Rattle.history.specs.Facts.{Sees}
 use Rattle.history.specs.Places.{Invariant}
 use Rattle.history.specs.OrderList.{born-seen}
 use Rattle.history.specs.NodeCount.{sum-to}
-use Rattle.history.specs.EffectsRight.{born-by}
+use Rattle.history.specs.EffectsRight.{effect-tag, effect-item, IsEffect, born-by}
 use Rattle.history.specs.EffectsRun.{Effected}
 
 -- how many of rising numbers are up to τ: the first so many
@@ -65,12 +67,36 @@ module _ (s : Catalogue) (invariant : Invariant s) (run : List Note) (E : Effect
       rising i j p q = omega (arith, invariant .kept .memory .births i j p q, invariant .kept .memory .item i .birth
           (invariant .kept .memory .registered i (omega arith)), invariant .kept .memory .item j .birth (invariant .kept .memory .registered j q))
 
-  -- an item with a version in effect at τ was born by then
-  pub born-then : (i τ j : ℕ) → Sees (s .memory .item i) τ j → i < object-at τ (effects run) .items
-  born-then i τ j x = at (split i (object-at τ (effects run) .items)) (split i (s .memory .items))
+  -- an item with a valid version is registered
+  pub is-registered : (i : ℕ) → 0 < s .memory .item i .valid → i < s .memory .items
+  is-registered i p = at (split i (s .memory .items))
     where
-      at : Split i (object-at τ (effects run) .items) → Split i (s .memory .items) → i < object-at τ (effects run) .items
-      at (Split.less p) q = p
-      at (Split.more p) (Split.more q) =
-          absurd (omega (arith, x .have, invariant .kept .memory .unregistered i q, invariant .kept .memory .item i .valid-published))
-      at (Split.more p) (Split.less q) = absurd (omega (arith, known-items τ .2 i p q, born-seen s invariant i τ j x))
+      at : Split i (s .memory .items) → i < s .memory .items
+      at (Split.less q) = q
+      at (Split.more q) = absurd (omega (arith, invariant .kept .memory .unregistered i q, invariant .kept .memory .item i .valid-published))
+
+  -- an item is born at τ exactly when its first version took effect by then
+  pub born-exactly : (i τ : ℕ) → Born i (object-at τ (effects run)) ↔ ((0 < s .memory .item i .valid) × (born-at i ≤ τ))
+  born-exactly i τ =
+      (λ b. at (born-told τ i (effects run) b) (E .memory .only _ (born-told τ i (effects run) b .among)),
+        λ x. told-born τ i (born-at i) (s .memory .item i .value 0) (s .memory .item i .size) (effects run) (E .memory .versions i 0 (x .0)) (x .1))
+    where
+      at : (B : Told τ i (effects run)) → IsEffect (s .memory) (birth (B .t) i (B .v) (B .s)) → (0 < s .memory .item i .valid) × (born-at i ≤ τ)
+      at B (IsEffect.of-counter h p e) = absurd (omega (arith, ap effect-tag e))
+      at B (IsEffect.of-version k (suc j) p e) = absurd (omega (arith, ap effect-tag e))
+      at B (IsEffect.of-version k zero p e) =
+          subst (λ (x : ℕ). (0 < s .memory .item x .valid) × (born-at x ≤ τ)) (sym (ap effect-item e)) (p, omega (arith, ap time e, B .by-then))
+
+  -- those born are the ones below the number of items
+  pub born-in-turn : (i τ : ℕ) → Born i (object-at τ (effects run)) ↔ (i < object-at τ (effects run) .items)
+  born-in-turn i τ =
+      (λ b. below (born-exactly i τ .0 b) (split i (object-at τ (effects run) .items)),
+        λ p. born-exactly i τ .1 (invariant .kept .memory .registered i (omega (arith, known-items τ .0)), known-items τ .1 i p))
+    where
+      below : (0 < s .memory .item i .valid) × (born-at i ≤ τ) → Split i (object-at τ (effects run) .items) → i < object-at τ (effects run) .items
+      below x (Split.less p) = p
+      below x (Split.more p) = absurd (omega (arith, x .1, known-items τ .2 i p (is-registered i (x .0))))
+
+  -- an item with a version in effect at τ was born by then
+  pub born-then : (i τ j : ℕ) → Sees (s .memory .item i) τ j → Born i (object-at τ (effects run))
+  born-then i τ j x = born-exactly i τ .1 (omega (arith, x .have), born-seen s invariant i τ j x)

@@ -5,15 +5,14 @@ use mathlib.Core.List.{List, [], _∷_}
 use Prim.Native.Nat.{ℕ, _+_, _≤_, _<_}
 use native.Mathlib.Omega.{arith}
 use lib.ListN.{length}
-use Rattle.definitions.specs.Calls.{Call}
 use Rattle.history.specs.Definition1.{Operation}
 use Rattle.history.specs.Notes.{ledger}
 use Rattle.history.specs.Notes as Notes
 use Rattle.history.specs.Notes.{WholeLines, RefusedLines, most-steps}
 use Rattle.history.specs.Statements.{fate-of, Finished}
-use Rattle.history.specs.Machine.{Memory, Limits, Then, then-39, then-43, then-48, then-52, then-34, then-total-34, Phase, line-37, line-39,
+use Rattle.history.specs.Machine.{Event, Memory, Limits, Then, then-39, then-43, then-48, then-52, then-34, then-total-34, Phase, line-37, line-39,
     line-41, line-43, line-45, line-46, line-48, line-50, line-51, line-52, line-5, line-6, line-32, line-34, total-32, total-34, closing, line-20,
-    line-21, line-22, Worker, busy, after-calls}
+    line-21, line-22, Worker, busy, after-events}
 use Rattle.history.specs.PhaseFacts.{ThenFacts, Helped, PhaseFacts}
 use Rattle.history.specs.RightAnswers.{then-operation, phase-operation}
 use Rattle.history.specs.Places.{InOperation, WorkerRight}
@@ -24,26 +23,26 @@ use Rattle.history.specs.LedgerRight.{Tells, InLedger, Runs, agrees}
 
 -- ---- the lines of an operation that ended
 
-pub whole-lines : (limits : Limits) (cs : List Call) (o x : ℕ) → Finished (machine-notes limits cs) o x →
-    WholeLines (fate-of (machine-notes limits cs) o .operation) (fate-of (machine-notes limits cs) o .lines)
-whole-lines limits cs o x e =
-    subst (λ (op : Operation). WholeLines op (fate-of (machine-notes limits cs) o .lines)) (sym (A .operation))
-      (subst (λ (l : List ℕ). WholeLines (after-calls limits cs .fate o .operation) l) (sym (A .done (A .answered x e) .1))
-        (run-right limits cs .kept .lines o .whole (A .answered x e)))
+pub whole-lines : (limits : Limits) (es : List Event) (o x : ℕ) → Finished (machine-notes limits es) o x →
+    WholeLines (fate-of (machine-notes limits es) o .operation) (fate-of (machine-notes limits es) o .lines)
+whole-lines limits es o x e =
+    subst (λ (op : Operation). WholeLines op (fate-of (machine-notes limits es) o .lines)) (sym (A .operation))
+      (subst (λ (l : List ℕ). WholeLines (after-events limits es .fate o .operation) l) (sym (A .done (A .answered x e) .1))
+        (run-right limits es .kept .lines o .whole (A .answered x e)))
   where
-    A : Tells (fate-of (machine-notes limits cs) o) (after-calls limits cs .fate o)
-    A = agrees limits cs .fate o
+    A : Tells (fate-of (machine-notes limits es) o) (after-events limits es .fate o)
+    A = agrees limits es .fate o
 
-pub refused-lines : (limits : Limits) (cs : List Call) (o n : ℕ) → n ≢ 0 → fate-of (machine-notes limits cs) o .ending ≡ Notes.ends-with n →
-    RefusedLines n (fate-of (machine-notes limits cs) o .operation) (fate-of (machine-notes limits cs) o .lines)
-refused-lines limits cs o n d e =
-    subst (λ (op : Operation). RefusedLines n op (fate-of (machine-notes limits cs) o .lines)) (sym (A .operation))
-      (subst (λ (l : List ℕ). RefusedLines n (after-calls limits cs .fate o .operation) l) (sym (A .refused n d e .1))
-        (subst (λ (n : ℕ). RefusedLines n (after-calls limits cs .fate o .operation) (after-calls limits cs .fate o .lines)) (A .refused n d e .0)
-          (run-right limits cs .kept .lines o .refused (λ z. d (sym (A .refused n d e .0) ∙ z)))))
+pub refused-lines : (limits : Limits) (es : List Event) (o n : ℕ) → n ≢ 0 → fate-of (machine-notes limits es) o .ending ≡ Notes.ends-with n →
+    RefusedLines n (fate-of (machine-notes limits es) o .operation) (fate-of (machine-notes limits es) o .lines)
+refused-lines limits es o n d e =
+    subst (λ (op : Operation). RefusedLines n op (fate-of (machine-notes limits es) o .lines)) (sym (A .operation))
+      (subst (λ (l : List ℕ). RefusedLines n (after-events limits es .fate o .operation) l) (sym (A .refused n d e .1))
+        (subst (λ (n : ℕ). RefusedLines n (after-events limits es .fate o .operation) (after-events limits es .fate o .lines)) (A .refused n d e .0)
+          (run-right limits es .kept .lines o .refused (λ z. d (sym (A .refused n d e .0) ∙ z)))))
   where
-    A : Tells (fate-of (machine-notes limits cs) o) (after-calls limits cs .fate o)
-    A = agrees limits cs .fate o
+    A : Tells (fate-of (machine-notes limits es) o) (after-events limits es .fate o)
+    A = agrees limits es .fate o
 
 -- ---- progress
 
@@ -84,25 +83,25 @@ phase-most t o l m (line-21 c j) x b = then-most t o (x .earlier) m c j (length 
 phase-most t o l m (line-22 c j n r) x b = then-most t o (x .earlier) m c j (length l) (x .keeps) (omega (arith, ap length (x .is))) b
 
 -- every operation of every run of the machine ends when it is stepped
-pub progress : (limits : Limits) → limits .items ≤ 256 → limits .nodes ≤ 4096 → (cs : List Call) (o : ℕ) →
-    fate-of (machine-notes limits cs) o .ending ≡ Notes.goes-on →
-  (ledger (machine-notes limits cs) .current (fate-of (machine-notes limits cs) o .worker) ≡ o)
-    × (length (fate-of (machine-notes limits cs) o .lines) < most-steps (fate-of (machine-notes limits cs) o .operation))
-progress limits a b cs o e = at (agrees limits cs .running o e)
+pub progress : (limits : Limits) → limits .items ≤ 256 → limits .nodes ≤ 4096 → (es : List Event) (o : ℕ) →
+    fate-of (machine-notes limits es) o .ending ≡ Notes.goes-on →
+  (ledger (machine-notes limits es) .current (fate-of (machine-notes limits es) o .worker) ≡ o)
+    × (length (fate-of (machine-notes limits es) o .lines) < most-steps (fate-of (machine-notes limits es) o .operation))
+progress limits a b es o e = at (agrees limits es .running o e)
   where
     w : ℕ
-    w = fate-of (machine-notes limits cs) o .worker
-    at : Runs (after-calls limits cs) o (fate-of (machine-notes limits cs) o) → (ledger (machine-notes limits cs) .current w ≡ o)
-        × (length (fate-of (machine-notes limits cs) o .lines) < most-steps (fate-of (machine-notes limits cs) o .operation))
+    w = fate-of (machine-notes limits es) o .worker
+    at : Runs (after-events limits es) o (fate-of (machine-notes limits es) o) → (ledger (machine-notes limits es) .current w ≡ o)
+        × (length (fate-of (machine-notes limits es) o .lines) < most-steps (fate-of (machine-notes limits es) o .operation))
     at (l, ph, is) =
-        (its .0, subst (λ (op : Operation). length (fate-of (machine-notes limits cs) o .lines) < most-steps op)
-            (sym (agrees limits cs .fate o .operation ∙ K .operation))
+        (its .0, subst (λ (op : Operation). length (fate-of (machine-notes limits es) o .lines) < most-steps op)
+            (sym (agrees limits es .fate o .operation ∙ K .operation))
           (subst (λ (l : List ℕ). length l < most-steps (phase-operation ph)) (sym (its .1))
-            (phase-most (after-calls limits cs .now) o l (after-calls limits cs .memory) ph (K .facts) (steps-bound limits a b cs w o l ph is))))
+            (phase-most (after-events limits es .now) o l (after-events limits es .memory) ph (K .facts) (steps-bound limits a b es w o l ph is))))
       where
-        K : InOperation (after-calls limits cs .now) (after-calls limits cs .memory) (after-calls limits cs .fate o) (after-calls limits cs .place o)
+        K : InOperation (after-events limits es .now) (after-events limits es .memory) (after-events limits es .fate o) (after-events limits es .place o)
             w o l ph
-        K = subst (λ (y : Worker). WorkerRight (after-calls limits cs .now) (after-calls limits cs .memory) (after-calls limits cs .fate)
-            (after-calls limits cs .place) w y) is (run-right limits cs .workers w)
-        its : InLedger (ledger (machine-notes limits cs)) w (busy o l ph)
-        its = subst (λ (y : Worker). InLedger (ledger (machine-notes limits cs)) w y) is (agrees limits cs .worker w)
+        K = subst (λ (y : Worker). WorkerRight (after-events limits es .now) (after-events limits es .memory) (after-events limits es .fate)
+            (after-events limits es .place) w y) is (run-right limits es .workers w)
+        its : InLedger (ledger (machine-notes limits es)) w (busy o l ph)
+        its = subst (λ (y : Worker). InLedger (ledger (machine-notes limits es)) w y) is (agrees limits es .worker w)

@@ -2,9 +2,9 @@
 -- and no stamp, node or counter.
 use mathlib.Core.Path.{_≡_}
 use mathlib.Core.Logic.{_⊎_}
-use mathlib.Core.Bool.{cond}
+use mathlib.Core.Bool.{Bool, true, false, cond}
 use mathlib.Core.List.{List, [], _∷_}
-use Prim.Native.Nat.{ℕ, zero, suc, _+_, _<_}
+use Prim.Native.Nat.{ℕ, zero, suc, _+_}
 use lib.Dec.{eqb}
 
 -- An operation with its arguments. A register has the number of its item, the value and the size.
@@ -21,9 +21,10 @@ pub record Act : Type 0 where
   pub operation : Operation
   pub answer : ℕ
 
--- The sequential object: how many items there are, and the value and the size of each.
+-- The sequential object: how many items there are, which are born, and the value and the size of each.
 pub record Object : Type 0 where
   pub items : ℕ
+  pub born : ℕ → Bool
   pub value : ℕ → ℕ
   pub size : ℕ → ℕ
 
@@ -32,11 +33,11 @@ unfoldable pub put {ℓ} : {A : Type ℓ} → (ℕ → A) → ℕ → A → ℕ 
 put f k v n = cond (eqb n k) v (f n)
 
 abbrev pub with-value : Object → (i v : ℕ) → Object
-with-value x i v = record { items = x .items; value = put (x .value) i v; size = x .size }
+with-value x i v = record { items = x .items; born = x .born; value = put (x .value) i v; size = x .size }
 
 -- what an operation makes of it
 unfoldable pub apply : Operation → Object → Object
-apply (register i v s) x = record { items = suc (x .items); value = put (x .value) i v; size = put (x .size) i s }
+apply (register i v s) x = record { items = suc (x .items); born = put (x .born) i true; value = put (x .value) i v; size = put (x .size) i s }
 apply (v-read i) x = x
 apply (v-cas i old new) x = with-value x i (cond (eqb (x .value i) old) new (x .value i))
 apply take-snapshot x = x
@@ -45,7 +46,7 @@ apply (total q h) x = x
 
 -- the object after a history; before it there is no item
 abbrev pub empty : Object
-empty = record { items = 0; value = λ i. 0; size = λ i. 0 }
+empty = record { items = 0; born = λ i. false; value = λ i. 0; size = λ i. 0 }
 
 unfoldable pub object : List Act → Object
 object [] = empty
@@ -83,15 +84,19 @@ Answered op x past l = Follows (record { operation = op; answer = x }) past l
 abbrev pub AtSnapshots : ℕ → List Act → (Object → Type 0) → Type 0
 AtSnapshots h past P = ((p : List Act) × Answered take-snapshot h p past) × ((p : List Act) → Answered take-snapshot h p past → P (object p))
 
--- item i is registered, and its value is x
+-- item i is born
+abbrev pub Born : ℕ → Object → Type 0
+Born i y = y .born i ≡ true
+
+-- item i is born, and its value is x
 abbrev pub Holds : (i x : ℕ) → Object → Type 0
-Holds i x y = (i < y .items) × (x ≡ y .value i)
+Holds i x y = Born i y × (x ≡ y .value i)
 
 -- The answer x is right after past. A takeSnapshot may answer h if all reads and totals at h so far agree with the object now.
 abbrev pub Right : Operation → ℕ → List Act → Type 0
 Right (register i v s) x past = (x ≡ i) × (object past .items ≡ i)
 Right (v-read i) x past = Holds i x (object past)
-Right (v-cas i old new) x past = (i < object past .items) × (x ≡ cond (eqb (object past .value i) old) 1 0)
+Right (v-cas i old new) x past = Born i (object past) × (x ≡ cond (eqb (object past .value i) old) 1 0)
 Right take-snapshot h past =
     ((i x : ℕ) (p : List Act) → Answered (read-snapshot i h) x p past → Holds i x (object past))
       × ((q x : ℕ) (p : List Act) → Answered (total q h) x p past → x ≡ total-of q (object past))

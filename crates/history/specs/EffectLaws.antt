@@ -14,7 +14,7 @@ use Rattle.history.specs.EffectList.{among-insert, insert-among}
 -- one more note keeps what was there
 kept : (y : Effect) (x : Note) (past : List Note) → In y (effects past) → In y (effects (x ∷ past))
 unfolding effects
-kept y Notes.refused past a = a
+kept y (Notes.quiet x) past a = a
 kept y (Notes.registered i v s) past a = among-insert _ y (effects past) a
 kept y (Notes.started w op) past a = a
 kept y (Notes.stepped w line (Notes.fetches i b) e) past a = a

@@ -5,7 +5,7 @@ use mathlib.Core.List.{List, [], _∷_}
 use Prim.Native.Nat.{ℕ}
 use lib.Dec.{ltb, eqb}
 use lib.ListN.{length}
-use Rattle.history.specs.Notes.{fetches, finds, publishes, stamps, moves, nothing, Note, refused, registered, started, stepped, ledger, Effect,
+use Rattle.history.specs.Notes.{fetches, finds, publishes, stamps, moves, nothing, Note, quiet, registered, started, stepped, ledger, Effect,
     birth, change, snapshot, time}
 
 -- into its place by time
@@ -16,7 +16,7 @@ insert x (y ∷ l) = cond (ltb (time x) (time y)) (y ∷ insert x l) (x ∷ y �
 -- the value of the head of item i, and when it was published
 unfoldable pub last-published : ℕ → List Note → ℕ × ℕ
 last-published i [] = (0, 0)
-last-published i (refused ∷ past) = last-published i past
+last-published i (quiet x ∷ past) = last-published i past
 last-published i (registered k v s ∷ past) = cond (eqb i k) (v, length past) (last-published i past)
 last-published i (started w op ∷ past) = last-published i past
 last-published i (stepped w line (fetches k b) e ∷ past) = last-published i past
@@ -33,7 +33,7 @@ last-step w past = ledger past .fate (ledger past .current w) .at
 -- The list of effects. A change takes effect at the line 21 whose line 22 stamped its node: the step before that, of the same worker.
 unfoldable pub effects : List Note → List Effect
 effects [] = []
-effects (refused ∷ past) = effects past
+effects (quiet x ∷ past) = effects past
 effects (registered i v s ∷ past) = insert (birth (length past) i v s) (effects past)
 effects (started w op ∷ past) = effects past
 effects (stepped w line (fetches i b) e ∷ past) = effects past

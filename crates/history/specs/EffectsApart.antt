@@ -4,14 +4,13 @@ use mathlib.Core.Logic.{_↔_, inl, inr}
 use mathlib.Core.List.{List, [], _∷_, map}
 use Prim.Native.Nat.{ℕ, zero, suc, _≤_, _<_}
 use native.Mathlib.Omega.{arith}
-use Rattle.definitions.specs.Calls.{Call}
 use Rattle.history.specs.Tools.{Split, split}
 use Rattle.history.specs.Notes.{Note, Effect, birth, change, snapshot, time}
 use Rattle.history.specs.Effects.{effects}
 use Rattle.history.specs.Notes as Notes
 use Rattle.history.specs.NoteParts.{deed-item, deed-value}
 use Rattle.history.specs.Statements.{Executed, FirstStamp, In, Once, Falling, TellsOf}
-use Rattle.history.specs.Machine.{Limits, Catalogue, after-calls}
+use Rattle.history.specs.Machine.{Event, Limits, Catalogue, after-events}
 use Rattle.history.specs.Places.{Invariant}
 use Rattle.history.specs.Run.{run-right}
 use Rattle.history.specs.MachineNotes.{machine-notes}
@@ -25,7 +24,7 @@ use Rattle.history.specs.EffectLaws.{birth-among, snapshot-among}
 use Rattle.history.specs.EffectsRun.{Effected, effected}
 
 abbrev note-item : Note → ℕ
-note-item Notes.refused = 0
+note-item (Notes.quiet x) = 0
 note-item (Notes.registered i v s) = i
 note-item (Notes.started w op) = 0
 note-item (Notes.stepped w k d e) = 0
@@ -196,30 +195,30 @@ times-once (x ∷ l) o f = (λ a. again (in-times (time x) l a), times-once l (o
     again : (y : Effect) × In y l × (time x ≡ time y) → ⊥
     again (y, a, e) = o .0 (subst (λ (y : Effect). In y l) (sym (f x y (inl refl) (inr a) e)) a)
 
-module _ (limits : Limits) (cs : List Call) where
-  pub ordered : Falling time (effects (machine-notes limits cs))
-  ordered = effected limits cs .memory .ordered
+module _ (limits : Limits) (es : List Event) where
+  pub ordered : Falling time (effects (machine-notes limits es))
+  ordered = effected limits es .memory .ordered
 
-  pub apart : Once (map time (effects (machine-notes limits cs)))
-  apart = times-once (effects (machine-notes limits cs)) (effected limits cs .memory .once)
-      (λ x y a b. one-at-a-time (after-calls limits cs) (run-right limits cs) (machine-notes limits cs) (traced limits cs) (moments limits cs)
-        (effected limits cs) x y (effected limits cs .memory .only x a) (effected limits cs .memory .only y b))
+  pub apart : Once (map time (effects (machine-notes limits es)))
+  apart = times-once (effects (machine-notes limits es)) (effected limits es .memory .once)
+      (λ x y a b. one-at-a-time (after-events limits es) (run-right limits es) (machine-notes limits es) (traced limits es) (moments limits es)
+        (effected limits es) x y (effected limits es .memory .only x a) (effected limits es .memory .only y b))
 
-  pub leaves-once : (h t t' : ℕ) → In (snapshot t h) (effects (machine-notes limits cs)) → In (snapshot t' h) (effects (machine-notes limits cs)) →
+  pub leaves-once : (h t t' : ℕ) → In (snapshot t h) (effects (machine-notes limits es)) → In (snapshot t' h) (effects (machine-notes limits es)) →
       t ≡ t'
   leaves-once h t t' a b =
-      left-once (after-calls limits cs) (run-right limits cs) (machine-notes limits cs) (traced limits cs) (moments limits cs) (effected limits cs)
-        h t t' (effected limits cs .memory .only (snapshot t h) a) (effected limits cs .memory .only (snapshot t' h) b)
+      left-once (after-events limits es) (run-right limits es) (machine-notes limits es) (traced limits es) (moments limits es) (effected limits es)
+        h t t' (effected limits es .memory .only (snapshot t h) a) (effected limits es .memory .only (snapshot t' h) b)
 
-  pub in-turn : (g h t : ℕ) → In (snapshot t h) (effects (machine-notes limits cs)) → g < h →
-      (u : ℕ) × In (snapshot u g) (effects (machine-notes limits cs)) × (u < t)
+  pub in-turn : (g h t : ℕ) → In (snapshot t h) (effects (machine-notes limits es)) → g < h →
+      (u : ℕ) × In (snapshot u g) (effects (machine-notes limits es)) × (u < t)
   in-turn g h t a p =
-      left-in-turn (after-calls limits cs) (run-right limits cs) (machine-notes limits cs) (traced limits cs) (moments limits cs) (effected limits cs)
-        g h t (effected limits cs .memory .only (snapshot t h) a) p
+      left-in-turn (after-events limits es) (run-right limits es) (machine-notes limits es) (traced limits es) (moments limits es) (effected limits es)
+        g h t (effected limits es .memory .only (snapshot t h) a) p
 
-  pub exactly : (x : Effect) → In x (effects (machine-notes limits cs)) ↔ TellsOf (machine-notes limits cs) x
+  pub exactly : (x : Effect) → In x (effects (machine-notes limits es)) ↔ TellsOf (machine-notes limits es) x
   exactly x =
-      (λ a. tells-of (after-calls limits cs) (run-right limits cs) (machine-notes limits cs) (traced limits cs) (moments limits cs)
-        (effected limits cs) x (effected limits cs .memory .only x a),
-      λ t. all-told (after-calls limits cs) (run-right limits cs) (machine-notes limits cs) (traced limits cs) (moments limits cs)
-        (effected limits cs) x t)
+      (λ a. tells-of (after-events limits es) (run-right limits es) (machine-notes limits es) (traced limits es) (moments limits es)
+        (effected limits es) x (effected limits es .memory .only x a),
+      λ t. all-told (after-events limits es) (run-right limits es) (machine-notes limits es) (traced limits es) (moments limits es)
+        (effected limits es) x t)

@@ -6,14 +6,13 @@ use Prim.Native.Nat.{ℕ, zero, suc, pred, _≤_, _<_}
 use native.Mathlib.Omega.{arith}
 use lib.Dec.{T}
 use lib.ListN.{length}
-use Rattle.definitions.specs.Calls.{Call}
 use Rattle.history.specs.Tools.{put, put-all, put-same, put-other, by-eq, Split, split, Same, eq, ne, same?}
 use Rattle.history.specs.Notes.{Deed, Note, ledger, Effect, birth, change, snapshot, object-at, changes-between}
 use Rattle.history.specs.Effects.{insert, last-published, effects}
 use Rattle.history.specs.Notes as Notes
 use Rattle.history.specs.Machine.{Item, Memory, Limits, found, node-to-take, Operation, take-snapshot, Phase, line-number, nothing, counts,
     publishes, stamps, takes-node, gives-back, Comes, line, memory-after, published, stamped, newborn, Worker, busy, Catalogue, affect, tick, begun,
-    registered, call, fresh, after-calls}
+    registered, fresh, Event, happens, after-events}
 use Rattle.history.specs.Machine as Machine
 use Rattle.history.specs.Facts.{Later}
 use Rattle.history.specs.Changes.{Allowed, effect-later}
@@ -22,7 +21,7 @@ use Rattle.history.specs.EachLine.{every-line}
 use Rattle.history.specs.Places.{InOperation, WorkerRight, Invariant}
 use Rattle.history.specs.Run.{run-right, registered-later}
 use Rattle.history.specs.NodeCount.{settle-memory, sum-to}
-use Rattle.history.specs.MachineNotes.{machine-note, machine-notes, phase-deed, ending, after-step, call-cases}
+use Rattle.history.specs.MachineNotes.{event-note, machine-notes, phase-deed, ending, after-step, event-cases}
 use Rattle.history.specs.LedgerRight.{InLedger, Agrees, agrees}
 use Rattle.history.specs.Trace.{PhaseTraced, WorkerTraced, Traced}
 use Rattle.history.specs.TraceMemory.{Matches, matches}
@@ -72,9 +71,9 @@ module _ (s : Catalogue) (invariant : Invariant s) (run : List Note) (A : Agrees
   unfolding memory-after
   stay = effect-later (invariant .kept .memory) 0 take-snapshot false nothing tt
 
-  after-refusal : Effected (tick s) (Notes.refused ∷ run)
+  after-quiet : (x : Notes.Look) → Effected (tick s) (Notes.quiet x ∷ run)
   unfolding tick effects last-published
-  after-refusal = record { memory = E .memory; newest = E .newest }
+  after-quiet x = record { memory = E .memory; newest = E .newest }
 
   after-start : (w : ℕ) (op : Operation) → Effected (tick (begun s w op)) (Notes.started w op ∷ run)
   unfolding tick begun effects last-published
@@ -258,24 +257,24 @@ module _ (s : Catalogue) (invariant : Invariant s) (run : List Note) (A : Agrees
       after-memory = unfold tick affect in
           (settle-memory w o (line-number ph ∷ l) (affect o s (line (s .now) (s .memory) ph .does)) (line (s .now) (s .memory) ph .comes))
 
-call-effected : (s : Catalogue) (run : List Note) → Invariant s → Agrees s run → Traced s run → Effected s run → (c : Call) →
-    Effected (call s c) (machine-note s c ∷ run)
-unfolding call
-call-effected s run invariant A tr E =
-    call-cases s invariant (λ (x : Note) (s' : Catalogue). Effected (tick s') (x ∷ run))
-      (after-refusal s invariant run A tr E)
+event-effected : (s : Catalogue) (run : List Note) → Invariant s → Agrees s run → Traced s run → Effected s run → (e : Event) →
+    Effected (happens s e) (event-note s e ∷ run)
+unfolding happens
+event-effected s run invariant A tr E =
+    event-cases s invariant (suc (s .memory .limits .workers)) (omega arith) (λ (x : Note) (s' : Catalogue). Effected (tick s') (x ∷ run))
+      (λ x q. after-quiet s invariant run A tr E x)
       (λ v z p. after-register s invariant run A tr E v z (found (node-to-take (s .memory))))
-      (λ w op p. after-start s invariant run A tr E w op)
-      (λ w o l ph b e. step-effected s invariant run A tr E w o l ph e)
+      (λ w op b f p. after-start s invariant run A tr E w op)
+      (λ w o l ph b e. step-effected s invariant run A tr E w o l ph e) (omega arith)
 
 -- the list of effects of every run
-pub effected : (limits : Limits) (cs : List Call) → Effected (after-calls limits cs) (machine-notes limits cs)
-unfolding after-calls machine-notes fresh effects object-at changes-between sum-to
+pub effected : (limits : Limits) (es : List Event) → Effected (after-events limits es) (machine-notes limits es)
+unfolding after-events machine-notes fresh effects object-at changes-between sum-to
 effected limits [] =
     record {
       memory = record { ordered = tt; once = tt; versions = λ i j p. absurd (omega arith); snapshots = λ h p. absurd (omega arith); only = λ x a.
           absurd a;
           count = λ i τ f. refl; items = λ τ. refl };
       newest = λ i p. absurd (omega arith) }
-effected limits (c ∷ cs) = call-effected (after-calls limits cs) (machine-notes limits cs) (run-right limits cs) (agrees limits cs) (traced limits cs)
-    (effected limits cs) c
+effected limits (e ∷ es) = event-effected (after-events limits es) (machine-notes limits es) (run-right limits es) (agrees limits es) (traced limits es)
+    (effected limits es) e

@@ -8,7 +8,6 @@ use Prim.Native.Nat.{ℕ, zero, suc, _+_, _≤_, _<_, min}
 use native.Mathlib.Omega.{arith}
 use lib.Dec.{T, ltb, eqb, ltb→lt, eqb-refl}
 use lib.ListN.{length}
-use Rattle.definitions.specs.Calls.{Call}
 use Rattle.history.specs.Tools.{Split, split, Same, eq, ne, same?, lt-ltb, and-both, and-parts}
 use Rattle.history.specs.Definition1.{Operation, read-snapshot}
 use Rattle.history.specs.Notes.{Note, ledger, Effect, time, object-at, changes-between}
@@ -16,7 +15,7 @@ use Rattle.history.specs.Effects.{effects}
 use Rattle.history.specs.Notes as Notes
 use Rattle.history.specs.Notes.{read-lines}
 use Rattle.history.specs.Statements.{ExactRead}
-use Rattle.history.specs.Machine.{Item, Limits, Place, Catalogue, after-calls}
+use Rattle.history.specs.Machine.{Event, Item, Limits, Place, Catalogue, after-events}
 use Rattle.history.specs.Facts.{Sees, Read}
 use Rattle.history.specs.Places.{ObserverRight, PlaceRight, Invariant}
 use Rattle.history.specs.Run.{run-right}
@@ -199,8 +198,8 @@ module _ (s : Catalogue) (invariant : Invariant s) (run : List Note) (E : Effect
       lines = A .fate o .done done .1 ∙ R .read .lines
 
 -- demand 3, for the notes of every run of the machine
-pub exact-reads : (limits : Limits) (cs : List Call) (o i h x : ℕ) → ledger (machine-notes limits cs) .fate o .operation ≡ read-snapshot i h →
-    ledger (machine-notes limits cs) .fate o .ending ≡ Notes.answers x → ExactRead (machine-notes limits cs) (effects (machine-notes limits cs)) o i
+pub exact-reads : (limits : Limits) (es : List Event) (o i h x : ℕ) → ledger (machine-notes limits es) .fate o .operation ≡ read-snapshot i h →
+    ledger (machine-notes limits es) .fate o .ending ≡ Notes.answers x → ExactRead (machine-notes limits es) (effects (machine-notes limits es)) o i
         h x
-exact-reads limits cs = exact (after-calls limits cs) (run-right limits cs) (machine-notes limits cs) (effected limits cs) (agrees limits cs)
-    (traced limits cs) (helped-in limits cs)
+exact-reads limits es = exact (after-events limits es) (run-right limits es) (machine-notes limits es) (effected limits es) (agrees limits es)
+    (traced limits es) (helped-in limits es)

@@ -6,15 +6,14 @@ use mathlib.Core.List.{List, _++_}
 use Prim.Native.Nat.{ℕ, zero, suc, _≤_, _<_}
 use native.Mathlib.Omega.{arith}
 use lib.ListN.{length}
-use Rattle.definitions.specs.Calls.{Call}
 use Rattle.history.specs.Tools.{Split, split}
 use Rattle.history.specs.Definition1.{Operation, total}
 use Rattle.history.specs.Notes.{Note, ledger, Effect, object-at, changes-between}
 use Rattle.history.specs.Effects.{effects}
 use Rattle.history.specs.Notes as Notes
 use Rattle.history.specs.Notes.{read-lines}
-use Rattle.history.specs.Statements.{TotalLines, no-item, born-later, read, ExactTotal}
-use Rattle.history.specs.Machine.{Limits, Place, unplaced, awaits, changes, observes, Catalogue, after-calls}
+use Rattle.history.specs.Statements.{TotalLines, no-item, not-born, read, ExactTotal}
+use Rattle.history.specs.Machine.{Event, Limits, Place, unplaced, awaits, changes, observes, Catalogue, after-events}
 use Rattle.history.specs.RightAnswers.{RightAnswer, TotalRead, AtLastStep}
 use Rattle.history.specs.Places.{ObserverRight, PlaceRight, Invariant}
 use Rattle.history.specs.Run.{run-right}
@@ -24,13 +23,14 @@ use Rattle.history.specs.NodeCount.{tally, limits-kept}
 use Rattle.history.specs.StepCount.{total-bound}
 use Rattle.history.specs.MachineNotes.{machine-notes}
 use Rattle.history.specs.LedgerRight.{is-answer, Agrees, agrees}
-use Rattle.history.specs.BornItems.{known-items, born-then}
+use Rattle.history.specs.BornItems.{known-items, is-registered, born-exactly, born-in-turn, born-then}
 use Rattle.history.specs.ExactReads.{value-seen, passed-is}
 use Rattle.history.specs.EffectList.{Sized, size-is}
 use Rattle.history.specs.EffectsRight.{version-effect, IsEffect, of-version, of-counter}
 use Rattle.history.specs.EffectsRun.{Effected, effected}
 use Rattle.history.specs.TotalTrace.{TotalTrace, none, skips, reads, TotalEnd, EndTotal}
 use Rattle.history.specs.TotalRun.{total-run}
+use Rattle.history.specs.BornTold.{born-between}
 
 module _ (s : Catalogue) (invariant : Invariant s) (run : List Note) (E : Effected s run) where
   -- the object when the counter left h
@@ -40,9 +40,10 @@ module _ (s : Catalogue) (invariant : Invariant s) (run : List Note) (E : Effect
         value = λ i j x. value-seen s invariant run E i (s .memory .camera .left-at h) j x;
         low = known .1;
         have = λ i p. have i p;
-        high = λ i p q. known .2 i p (there i q (split i (s .memory .items)));
+        high = λ i p q. known .2 i p (is-registered s invariant run E i q);
         sizes = λ i p. size-is i (s .memory .camera .left-at h) (s .memory .item i .size) (version-effect (s .memory .item i) i 0) (effects run)
-            (E .memory .versions i 0 (have i p)) (known .1 i p) (refl, refl) (λ y a u c. sized i y u (E .memory .only y a) c) }
+            (E .memory .versions i 0 (have i p)) (known .1 i p) (refl, refl) (λ y a u c. sized i y u (E .memory .only y a) c);
+        all-born = λ i p. born-in-turn s invariant run E i (s .memory .camera .left-at h) .1 p }
     where
       known : (object-at (s .memory .camera .left-at h) (effects run) .items ≤ s .memory .items)
           × ((i : ℕ) → i < object-at (s .memory .camera .left-at h) (effects run) .items → s .memory .item i .effect-at 0 ≤
@@ -52,9 +53,6 @@ module _ (s : Catalogue) (invariant : Invariant s) (run : List Note) (E : Effect
       known = known-items s invariant run E (s .memory .camera .left-at h)
       have : (i : ℕ) → i < object-at (s .memory .camera .left-at h) (effects run) .items → 0 < s .memory .item i .valid
       have i p = invariant .kept .memory .registered i (omega (arith, known .0))
-      there : (i : ℕ) → 0 < s .memory .item i .valid → Split i (s .memory .items) → i < s .memory .items
-      there i q (Split.less p) = p
-      there i q (Split.more p) = absurd (omega (arith, invariant .kept .memory .unregistered i p, invariant .kept .memory .item i .valid-published))
       sized : (i : ℕ) (y : Effect) (u : ℕ) → IsEffect (s .memory) y → Sized i u y → u ≡ s .memory .item i .size
       sized i y u (of-counter k p e) c = absurd (subst (λ (y : Effect). Sized i u y) e c)
       sized i y u (of-version n zero p e) c =
@@ -68,8 +66,8 @@ module _ (s : Catalogue) (invariant : Invariant s) (run : List Note) (E : Effect
       g
   lines-are none = no-item
   lines-are (skips {i} {g} {l} f y p z x r) =
-      born-later {i = i} f (s .memory .item i .effect-at 0) (s .memory .item i .value 0) (s .memory .item i .size) y p (E .memory .versions i 0 z)
-        (invariant .kept .memory .item i .counted 0 z .past h x) (lines-are r)
+      not-born {i = i} f y p (λ b. absurd (omega (arith, born-exactly s invariant run E i (s .memory .camera .left-at h) .0 b .1,
+        invariant .kept .memory .item i .counted 0 z .past h x))) (lines-are r)
   lines-are {o} {e} (reads {i} {g} {l} f y p j r x w z) =
       subst (λ (r : List ℕ). TotalLines run (effects run) (s .memory .camera .left-at h) o (suc i) (r ++ l) f)
         (ap (read-lines (x .tbd)) (ap (λ (f : ℕ). changes-between i (s .memory .camera .left-at h) f (effects run)) (sym w)
@@ -86,29 +84,27 @@ module _ (s : Catalogue) (invariant : Invariant s) (run : List Note) (E : Effect
         lines = (D .done, D .g,
           subst (λ (k : ℕ). TotalLines run (effects run) (s .memory .camera .left-at h) o k (D .done) (D .g))
             (same (split (D .k) (object-at o (effects run) .items)) (split (object-at o (effects run) .items) (D .k))) (lines-are (D .trace)),
-          A .fate o .done d .1 ∙ D .lines) }
+          A .fate o .done d .1 ∙ D .lines);
+        later = λ i b n. born-between i (s .memory .camera .left-at h) o (effects run) b n }
     where
       known : (object-at o (effects run) .items ≤ s .memory .items) ×
           ((i : ℕ) → i < object-at o (effects run) .items → s .memory .item i .effect-at 0 ≤ o)
           × ((i : ℕ) → object-at o (effects run) .items ≤ i → i < s .memory .items → o < s .memory .item i .effect-at 0)
       known = known-items s invariant run E o
       -- a total registers no item
-      not-born : (i : ℕ) → 0 < s .memory .item i .valid → s .memory .item i .author 0 ≢ o
-      not-born i p z = let t : _≡_ {A = ℕ} 0 5 = ap operation-tag
+      not-its-own : (i : ℕ) → 0 < s .memory .item i .valid → s .memory .item i .author 0 ≢ o
+      not-its-own i p z = let t : _≡_ {A = ℕ} 0 5 = ap operation-tag
           (sym (invariant .kept .versions-right i 0 (omega (arith, invariant .kept .memory .item i .valid-published)) .asked)
           ∙ ap (λ (o : ℕ). s .fate o .operation) z ∙ w) in omega arith
-      there : (i : ℕ) → 0 < s .memory .item i .valid → Split i (s .memory .items) → i < s .memory .items
-      there i p (Split.less u) = u
-      there i p (Split.more u) = absurd (omega (arith, invariant .kept .memory .unregistered i u, invariant .kept .memory .item i .valid-published))
       same : Split (D .k) (object-at o (effects run) .items) → Split (object-at o (effects run) .items) (D .k) → D .k ≡ object-at o
           (effects run) .items
       same (Split.less u) v =
           let p : 0 < s .memory .item (D .k) .valid = invariant .kept .memory .registered (D .k) (omega (arith, known .0)) in
-          absurd (omega (arith, known .1 (D .k) u, D .covers (D .k) (omega arith) p, invariant .kept .memory .item (D .k) .birth p, not-born (D .k)
-              p))
+          absurd (omega (arith, known .1 (D .k) u, D .covers (D .k) (omega arith) p, invariant .kept .memory .item (D .k) .birth p,
+            not-its-own (D .k) p))
       same (Split.more u) (Split.less v) =
           let p : 0 < s .memory .item (object-at o (effects run) .items) .valid = D .have (object-at o (effects run) .items) v in
-          absurd (omega (arith, known .2 (object-at o (effects run) .items) (omega arith) (there _ p (split _ (s .memory .items))),
+          absurd (omega (arith, known .2 (object-at o (effects run) .items) (omega arith) (is-registered s invariant run E _ p),
             D .noted (object-at o (effects run) .items) v, invariant .kept .memory .item (object-at o (effects run) .items) .birth p))
       same (Split.more u) (Split.more v) = omega arith
 
@@ -133,39 +129,39 @@ module _ (s : Catalogue) (invariant : Invariant s) where
           (τ, subst (λ (x : ℕ). TotalRead (s .memory) q h o (s .fate o .lines) τ x) (sym (O .is)) R, omega arith)
 
 -- every finished total of every run of the machine
-pub exact-totals : (limits : Limits) (cs : List Call) (o q h x : ℕ) → ledger (machine-notes limits cs) .fate o .operation ≡ total q h →
-    ledger (machine-notes limits cs) .fate o .ending ≡ Notes.answers x → ExactTotal (machine-notes limits cs) (effects (machine-notes limits cs)) o q
+pub exact-totals : (limits : Limits) (es : List Event) (o q h x : ℕ) → ledger (machine-notes limits es) .fate o .operation ≡ total q h →
+    ledger (machine-notes limits es) .fate o .ending ≡ Notes.answers x → ExactTotal (machine-notes limits es) (effects (machine-notes limits es)) o q
         h x
-exact-totals limits cs o q h x w e =
-    subst (λ (x : ℕ). ExactTotal (machine-notes limits cs) (effects (machine-notes limits cs)) o q h x) (is-answer (agrees limits cs .fate o) x e)
-      (exact-total (after-calls limits cs) (run-right limits cs) (machine-notes limits cs) (effected limits cs) q h (y .1 .gone) (agrees limits cs) o
+exact-totals limits es o q h x w e =
+    subst (λ (x : ℕ). ExactTotal (machine-notes limits es) (effects (machine-notes limits es)) o q h x) (is-answer (agrees limits es .fate o) x e)
+      (exact-total (after-events limits es) (run-right limits es) (machine-notes limits es) (effected limits es) q h (y .1 .gone) (agrees limits es) o
         (y .0) _ _ there asks done (y .1))
   where
-    done : after-calls limits cs .fate o .done ≡ true
-    done = agrees limits cs .fate o .answered x e
-    asks : after-calls limits cs .fate o .operation ≡ total q h
-    asks = sym (agrees limits cs .fate o .operation) ∙ w
-    there : TotalEnd (after-calls limits cs .memory) (machine-notes limits cs) h o (suc (after-calls limits cs .fate o .ended-at))
-        (after-calls limits cs .fate o .lines)
+    done : after-events limits es .fate o .done ≡ true
+    done = agrees limits es .fate o .answered x e
+    asks : after-events limits es .fate o .operation ≡ total q h
+    asks = sym (agrees limits es .fate o .operation) ∙ w
+    there : TotalEnd (after-events limits es .memory) (machine-notes limits es) h o (suc (after-events limits es .fate o .ended-at))
+        (after-events limits es .fate o .lines)
     there =
-        subst (λ (op : Operation). EndTotal (after-calls limits cs .memory) (machine-notes limits cs) o (suc (after-calls limits cs .fate o .ended-at))
-            (after-calls limits cs .fate o .lines) op) asks (total-run limits cs .ends o done)
-    y : (τ : ℕ) × TotalRead (after-calls limits cs .memory) q h o (after-calls limits cs .fate o .lines) τ (after-calls limits cs .fate o .answer)
-        × (τ ≡ after-calls limits cs .fate o .ended-at)
-    y = finished-total (after-calls limits cs) (run-right limits cs) o q h asks done
+        subst (λ (op : Operation). EndTotal (after-events limits es .memory) (machine-notes limits es) o (suc (after-events limits es .fate o .ended-at))
+            (after-events limits es .fate o .lines) op) asks (total-run limits es .ends o done)
+    y : (τ : ℕ) × TotalRead (after-events limits es .memory) q h o (after-events limits es .fate o .lines) τ (after-events limits es .fate o .answer)
+        × (τ ≡ after-events limits es .fate o .ended-at)
+    y = finished-total (after-events limits es) (run-right limits es) o q h asks done
 
 -- never more than 5,121 steps
-pub total-most : (limits : Limits) → limits .items ≤ 256 → limits .nodes ≤ 4096 → (cs : List Call) (o q h x : ℕ) →
-    ledger (machine-notes limits cs) .fate o .operation ≡ total q h → ledger (machine-notes limits cs) .fate o .ending ≡ Notes.answers x →
-  length (ledger (machine-notes limits cs) .fate o .lines) ≤ 5121
-total-most limits a b cs o q h x w e =
-    subst (λ (l : List ℕ). length l ≤ 5121) (sym (agrees limits cs .fate o .done done .1))
-      (total-bound (after-calls limits cs) (run-right limits cs) (tally limits cs)
-          (subst (λ (y : Limits). y .items ≤ 256) (sym (limits-kept limits cs)) a)
-          (subst (λ (y : Limits). y .nodes ≤ 4096) (sym (limits-kept limits cs)) b) q h o (y .0) _ _ (y .1))
+pub total-most : (limits : Limits) → limits .items ≤ 256 → limits .nodes ≤ 4096 → (es : List Event) (o q h x : ℕ) →
+    ledger (machine-notes limits es) .fate o .operation ≡ total q h → ledger (machine-notes limits es) .fate o .ending ≡ Notes.answers x →
+  length (ledger (machine-notes limits es) .fate o .lines) ≤ 5121
+total-most limits a b es o q h x w e =
+    subst (λ (l : List ℕ). length l ≤ 5121) (sym (agrees limits es .fate o .done done .1))
+      (total-bound (after-events limits es) (run-right limits es) (tally limits es)
+          (subst (λ (y : Limits). y .items ≤ 256) (sym (limits-kept limits es)) a)
+          (subst (λ (y : Limits). y .nodes ≤ 4096) (sym (limits-kept limits es)) b) q h o (y .0) _ _ (y .1))
   where
-    done : after-calls limits cs .fate o .done ≡ true
-    done = agrees limits cs .fate o .answered x e
-    y : (τ : ℕ) × TotalRead (after-calls limits cs .memory) q h o (after-calls limits cs .fate o .lines) τ (after-calls limits cs .fate o .answer)
-        × (τ ≡ after-calls limits cs .fate o .ended-at)
-    y = finished-total (after-calls limits cs) (run-right limits cs) o q h (sym (agrees limits cs .fate o .operation) ∙ w) done
+    done : after-events limits es .fate o .done ≡ true
+    done = agrees limits es .fate o .answered x e
+    y : (τ : ℕ) × TotalRead (after-events limits es .memory) q h o (after-events limits es .fate o .lines) τ (after-events limits es .fate o .answer)
+        × (τ ≡ after-events limits es .fate o .ended-at)
+    y = finished-total (after-events limits es) (run-right limits es) o q h (sym (agrees limits es .fate o .operation) ∙ w) done

@@ -7,16 +7,15 @@ use Prim.Native.Nat.{ℕ, zero, suc, _≤_}
 use native.Mathlib.Omega.{arith}
 use lib.Dec.{eqb}
 use lib.ListN.{length, replicate}
-use Rattle.definitions.specs.Calls.{Call}
 use Rattle.history.specs.Tools.{put-all, Split, split, Same, eq, ne, same?, ne-eqb}
 use Rattle.history.specs.Notes.{Deed, finds, Note, Fate, entered, ledger, helped, read-lines}
 use Rattle.history.specs.Notes as Notes
 use Rattle.history.specs.NoteParts.{note-tag, note-line, note-deed, note-worker}
 use Rattle.history.specs.Statements.{Executed, Steps, Next}
-use Rattle.history.specs.Machine.{Limits, Phase, line-number, Worker, busy, Catalogue, after-calls}
+use Rattle.history.specs.Machine.{Limits, Phase, line-number, Worker, busy, Catalogue, Event, after-events}
 use Rattle.history.specs.Places.{Invariant}
 use Rattle.history.specs.Run.{run-right}
-use Rattle.history.specs.MachineNotes.{machine-note, machine-notes, call-cases}
+use Rattle.history.specs.MachineNotes.{event-note, machine-notes, event-cases}
 use Rattle.history.specs.LedgerRight.{InLedger, Agrees, agrees}
 use Rattle.history.specs.Trace.{LatestOf, WorkerTraced, Traced, executed-more, executed-past}
 use Rattle.history.specs.TraceMemory.{executed-inv}
@@ -98,7 +97,7 @@ module _ (run : List Note) (helps : Helps run) where
 
   more-found : (x : Note) → StepsOn x → (o : ℕ) → Found (x ∷ run) o (ledger (x ∷ run) .fate o .lines)
   unfolding ledger entered
-  more-found Notes.refused latest o = found-more run Notes.refused o (ledger run .fate o .lines) (helps .found o)
+  more-found (Notes.quiet x) latest o = found-more run (Notes.quiet x) o (ledger run .fate o .lines) (helps .found o)
   more-found (Notes.registered i v s) latest o =
       put-all (λ (o : ℕ) (f : Fate). Found (Notes.registered i v s ∷ run) o (f .lines)) (ledger run .fate) (length run) _ o (λ z. tt)
         (λ z. found-more run (Notes.registered i v s) o (ledger run .fate o .lines) (helps .found o))
@@ -125,21 +124,21 @@ module _ (run : List Note) (helps : Helps run) where
       subst (λ (o : ℕ). LatestOf run o (line-number ph) (ledger run .fate o .lines)) (sym (told .0))
         (subst (λ (l : List ℕ). LatestOf run o (line-number ph) l) (sym (told .1)) (its .1))
 
-  call-helps : (s : Catalogue) → Invariant s → Agrees s run → Traced s run → (c : Call) → Helps (machine-note s c ∷ run)
-  call-helps s invariant A T =
-      call-cases s invariant (λ (x : Note) (s' : Catalogue). Helps (x ∷ run))
-        (more-helps Notes.refused (λ e. absurd (omega arith)))
+  event-helps : (s : Catalogue) → Invariant s → Agrees s run → Traced s run → (e : Event) → Helps (event-note s e ∷ run)
+  event-helps s invariant A T =
+      event-cases s invariant (suc (s .memory .limits .workers)) (omega arith) (λ (x : Note) (s' : Catalogue). Helps (x ∷ run))
+        (λ x q. more-helps (Notes.quiet x) (λ e. absurd (omega arith)))
         (λ v z p. more-helps (Notes.registered (s .memory .items) v z) (λ e. absurd (omega arith)))
-        (λ w op p. more-helps (Notes.started w op) (λ e. absurd (omega arith)))
-        (λ w o l ph b is. more-helps _ (λ e. steps-on s A T w o l ph is))
+        (λ w op b f p. more-helps (Notes.started w op) (λ e. absurd (omega arith)))
+        (λ w o l ph b is. more-helps _ (λ e. steps-on s A T w o l ph is)) (omega arith)
 
 -- ---- in every run
 
-pub helped-in : (limits : Limits) (cs : List Call) → Helps (machine-notes limits cs)
+pub helped-in : (limits : Limits) (es : List Event) → Helps (machine-notes limits es)
 unfolding machine-notes ledger
 helped-in limits [] = record { decides = λ o t t' line d d' a b n. absurd (a .noted); found = λ o. tt }
-helped-in limits (c ∷ cs) =
-    call-helps (machine-notes limits cs) (helped-in limits cs) (after-calls limits cs) (run-right limits cs) (agrees limits cs) (traced limits cs) c
+helped-in limits (e ∷ es) =
+    event-helps (machine-notes limits es) (helped-in limits es) (after-events limits es) (run-right limits es) (agrees limits es) (traced limits es) e
 
 decided : (line : ℕ) (valid : Bool) → valid ≡ not (eqb line 21) → (line ≡ 21) ↔ (valid ≡ false)
 decided line valid e = (λ z. e ∙ ap (λ (k : ℕ). not (eqb k 21)) z, λ z. at z (same? line 21))
@@ -148,9 +147,9 @@ decided line valid e = (λ z. e ∙ ap (λ (k : ℕ). not (eqb k 21)) z, λ z. a
     at z (eq q) = q
     at z (ne q) = absurd (true≢false (sym (e ∙ ap not (ne-eqb line 21 q)) ∙ z))
 
-pub helps : (limits : Limits) (cs : List Call) (o t t' line : ℕ) (d : Deed) (valid : Bool) → Executed (machine-notes limits cs) o 20 (finds valid) t →
-    Executed (machine-notes limits cs) o line d t' → Next (Steps (machine-notes limits cs) o) t t' → (line ≡ 21) ↔ (valid ≡ false)
-helps limits cs o t t' line d valid a b n = decided line valid (let z = helped-in limits cs .decides o t t' line (finds valid) d a b n in cc)
+pub helps : (limits : Limits) (es : List Event) (o t t' line : ℕ) (d : Deed) (valid : Bool) → Executed (machine-notes limits es) o 20 (finds valid) t →
+    Executed (machine-notes limits es) o line d t' → Next (Steps (machine-notes limits es) o) t t' → (line ≡ 21) ↔ (valid ≡ false)
+helps limits es o t t' line d valid a b n = decided line valid (let z = helped-in limits es .decides o t t' line (finds valid) d a b n in cc)
 
 -- the one line 20 of a whole read
 pub found-read : (run : List Note) (o : ℕ) (tbd : Bool) (passed : ℕ) → Found run o (read-lines tbd passed) →

@@ -1,10 +1,10 @@
 -- An operation that goes on is never refused a step.
 use mathlib.Core.Path.{_≡_, refl, ap, sym, _∙_, subst}
 use mathlib.Core.Bool.{Bool, false, cond, true≢false}
-use mathlib.Core.List.{List, [], _∷_}
+use mathlib.Core.List.{List, _∷_}
 use Prim.Native.Nat.{ℕ, _<_}
 use native.Mathlib.Omega.{arith}
-use lib.Dec.{leb→le, nleb→lt}
+use lib.Dec.{leb→le}
 use Rattle.definitions.specs.Calls.{Call}
 use Rattle.history.specs.Tools.{put, put-all, by-test}
 use Rattle.history.specs.Notes.{Deed, Ending, Note, step-note}
@@ -12,7 +12,7 @@ use Rattle.history.specs.Notes as Notes
 use Rattle.history.specs.Statements.{fate-of}
 use Rattle.history.specs.Machine.{Memory, Limits, Operation, Phase, line-number, Comes, goes-on, ends-with, answers-change, answers, line,
     Worker, idle, busy, Catalogue, settle, affect, tick, Move, is-idle, no-worker, step-answer, begun, registered, call, reply, move, stepping,
-    stepped, refused, fresh, after-calls}
+    stepped, refused, Event, after-events}
 use Rattle.history.specs.RightAnswers.{RefusedLines, no-node-left, counter-full, ComesRight}
 use Rattle.history.specs.EachLine.{every-line}
 use Rattle.history.specs.Places.{InOperation, WorkerRight, Invariant}
@@ -22,7 +22,7 @@ use Rattle.history.specs.MachineNotes.{machine-note, machine-notes, work
 use Rattle.history.specs.LedgerRight.{Runs, agrees}
 
 -- only workers that there are get into operations
-abbrev Below : Catalogue → Type 0
+abbrev pub Below : Catalogue → Type 0
 Below s = (w : ℕ) → is-idle (s .worker w) ≡ false → w < s .memory .limits .workers
 
 module _ (s : Catalogue) (B : Below s) where
@@ -45,17 +45,12 @@ module _ (s : Catalogue) (B : Below s) where
       below (answers-change x) = unfold tick settle affect in (below-put w idle p w')
       below (answers x τ j) = unfold tick settle affect in (below-put w idle p w')
 
-call-below : (s : Catalogue) → Invariant s → Below s → (c : Call) → Below (call s c)
+pub call-below : (s : Catalogue) → Invariant s → Below s → (c : Call) → Below (call s c)
 unfolding call tick registered begun
 call-below s invariant B =
-    call-cases s invariant (λ (x : Note) (s' : Catalogue). Below (tick s')) B (λ v z p. B)
-      (λ w op p. below-put s B w _ (nleb→lt (s .memory .limits .workers) w (p .0)))
+    call-cases s invariant (s .memory .limits .workers) (omega arith) (λ (x : Note) (s' : Catalogue). Below (tick s')) (λ x q. B) (λ v z p. B)
+      (λ w op b f p. below-put s B w _ b)
       (λ w o l ph b e. after-line s B w o l ph b (line (s .now) (s .memory) ph .comes))
-
-below : (limits : Limits) (cs : List Call) → Below (after-calls limits cs)
-unfolding after-calls fresh
-below limits [] = λ w e. absurd (true≢false e)
-below limits (c ∷ cs) = call-below (after-calls limits cs) (run-right limits cs) (below limits cs) c
 
 -- what a step of a worker in an operation is noted as
 noted-as : (w k : ℕ) (d : Deed) (n : List ℕ) (u : Comes) (op : Operation) (p : Bool) (t o : ℕ) (m : Memory) → ComesRight t o n m op p u →
@@ -88,16 +83,16 @@ step-noted s invariant w b (busy o l ph) q z =
     K = subst (λ (x : Worker). WorkerRight (s .now) (s .memory) (s .fate) (s .place) w x) q (invariant .workers w)
 
 -- the worker of an operation that goes on executes a line when it is stepped
-pub always-steps : (limits : Limits) (cs : List Call) (o : ℕ) → fate-of (machine-notes limits cs) o .ending ≡ Notes.goes-on →
-    (line : ℕ) × (d : Deed) × (e : Ending) × (machine-note (after-calls limits cs) (Call.step (fate-of (machine-notes limits cs) o .worker))
-      ≡ Notes.stepped (fate-of (machine-notes limits cs) o .worker) line d e)
+pub always-steps : (limits : Limits) (es : List Event) → Below (after-events limits es) → (o : ℕ) → fate-of (machine-notes limits es) o .ending ≡ Notes.goes-on →
+    (line : ℕ) × (d : Deed) × (e : Ending) × (machine-note (after-events limits es) (Call.step (fate-of (machine-notes limits es) o .worker))
+      ≡ Notes.stepped (fate-of (machine-notes limits es) o .worker) line d e)
 unfolding machine-note reply move stepping
-always-steps limits cs o t = at (agrees limits cs .running o t)
+always-steps limits es B o t = at (agrees limits es .running o t)
   where
     w : ℕ
-    w = fate-of (machine-notes limits cs) o .worker
-    at : Runs (after-calls limits cs) o (fate-of (machine-notes limits cs) o) → (line : ℕ) × (d : Deed) × (e : Ending)
-        × (machine-note (after-calls limits cs) (Call.step w) ≡ Notes.stepped w line d e)
-    at (l, ph, is) = step-noted (after-calls limits cs) (run-right limits cs) w (below limits cs w (ap is-idle is)) (after-calls limits cs .worker w)
+    w = fate-of (machine-notes limits es) o .worker
+    at : Runs (after-events limits es) o (fate-of (machine-notes limits es) o) → (line : ℕ) × (d : Deed) × (e : Ending)
+        × (machine-note (after-events limits es) (Call.step w) ≡ Notes.stepped w line d e)
+    at (l, ph, is) = step-noted (after-events limits es) (run-right limits es) w (B w (ap is-idle is)) (after-events limits es .worker w)
         refl
         (ap is-idle is)

@@ -17,7 +17,7 @@ use Rattle.history.specs.TraceMemory.{executed-inv}
 current-past : (run : List Note) (w : ℕ) → ledger run .current w ≤ length run
 unfolding ledger entered
 current-past [] w = omega arith
-current-past (Notes.refused ∷ past) w = omega (arith, current-past past w)
+current-past (Notes.quiet x ∷ past) w = omega (arith, current-past past w)
 current-past (Notes.registered i v s ∷ past) w = omega (arith, current-past past w)
 current-past (Notes.started w' op ∷ past) w =
     put-all (λ (w n : ℕ). n ≤ length (Notes.started w' op ∷ past)) (ledger past .current) w' (length past) w (λ e. omega arith)
@@ -48,7 +48,7 @@ module _ (past : List Note) (o : ℕ) {line t : ℕ} {d : Deed} (earlier : Execu
 
   one-more : (x : Note) → Executed (x ∷ past) o line d t → AtLatest (x ∷ past) o t
   unfolding ledger entered
-  one-more Notes.refused e = kept Notes.refused (λ z. absurd (omega arith)) (λ z. refl) e
+  one-more (Notes.quiet x) e = kept (Notes.quiet x) (λ z. absurd (omega arith)) (λ z. refl) e
   one-more (Notes.registered i v s) e =
       kept (Notes.registered i v s) (λ z. absurd (omega arith))
         (λ z. put-other (ledger past .fate) (length past) _ o (λ q. omega (arith, named-past past o z))) e

@@ -7,18 +7,17 @@ use Prim.Native.Nat.{ℕ, suc}
 use native.Mathlib.Omega.{arith}
 use lib.Dec.{T}
 use lib.ListN.{length}
-use Rattle.definitions.specs.Calls.{Call}
 use Rattle.history.specs.Tools.{put, put-all, put-both, put-same, put-other, Same, eq, ne, same?}
 use Rattle.history.specs.Notes.{Note, Fate, Ledger, begins, continues, entered, ledger}
 use Rattle.history.specs.Notes as Notes
 use Rattle.history.specs.NoteParts.{ending-tag, ending-number}
 use Rattle.history.specs.Machine.{Limits, found, node-to-take, Operation, register, Phase, line-number, Effect, Comes, goes-on, ends-with,
-    answers-change, answers, line, Worker, idle, busy, Catalogue, ended, turned-away, settle, affect, tick, is-idle, begun, registered, call, fresh,
-    after-calls, first-phase}
+    answers-change, answers, line, Worker, idle, busy, Catalogue, ended, turned-away, settle, affect, tick, is-idle, begun, registered, fresh,
+    Event, happens, after-events, first-phase}
 use Rattle.history.specs.Machine as Machine
 use Rattle.history.specs.Places.{InOperation, WorkerRight, Invariant}
 use Rattle.history.specs.Run.{run-right}
-use Rattle.history.specs.MachineNotes.{machine-note, machine-notes, ending, phase-deed, call-cases}
+use Rattle.history.specs.MachineNotes.{event-note, machine-notes, ending, phase-deed, event-cases}
 
 -- a fate in the ledger tells what the machine has of that operation
 pub record Tells (g : Fate) (f : Machine.Entry) : Type 0 where
@@ -53,9 +52,9 @@ in-of idle = 0
 in-of (busy o l ph) = o
 
 module _ (s : Catalogue) (invariant : Invariant s) (run : List Note) (A : Agrees s run) where
-  after-refusal : Agrees (tick s) (Notes.refused ∷ run)
+  after-quiet : (x : Notes.Look) → Agrees (tick s) (Notes.quiet x ∷ run)
   unfolding tick ledger entered
-  after-refusal = record { now = ap suc (A .now); fate = A .fate; worker = A .worker; running = A .running }
+  after-quiet x = record { now = ap suc (A .now); fate = A .fate; worker = A .worker; running = A .running }
 
   in-work : (w o : ℕ) (l : List ℕ) (ph : Phase) → s .worker w ≡ busy o l ph → InOperation (s .now) (s .memory) (s .fate o) (s .place o) w o l ph
   in-work w o l ph e = subst (λ (x : Worker). WorkerRight (s .now) (s .memory) (s .fate) (s .place) w x) e (invariant .workers w)
@@ -250,21 +249,21 @@ module _ (s : Catalogue) (invariant : Invariant s) (run : List Note) (A : Agrees
           fate = fate-told d (Notes.answers x) _ (ended-tells x); worker = idle-told d (Notes.answers x);
           running = over-told d (Notes.answers x) (omega arith) }
 
-call-agrees : (s : Catalogue) (run : List Note) → Invariant s → Agrees s run → (c : Call) → Agrees (call s c) (machine-note s c ∷ run)
-unfolding call
-call-agrees s run invariant A =
-    call-cases s invariant (λ (x : Note) (s' : Catalogue). Agrees (tick s') (x ∷ run))
-      (after-refusal s invariant run A)
+event-agrees : (s : Catalogue) (run : List Note) → Invariant s → Agrees s run → (e : Event) → Agrees (happens s e) (event-note s e ∷ run)
+unfolding happens
+event-agrees s run invariant A =
+    event-cases s invariant (suc (s .memory .limits .workers)) (omega arith) (λ (x : Note) (s' : Catalogue). Agrees (tick s') (x ∷ run))
+      (λ x q. after-quiet s invariant run A x)
       (λ v z p. after-register s invariant run A v z (found (node-to-take (s .memory))))
-      (λ w op p. after-start s invariant run A w op (p .1 .0))
+      (λ w op b f p. after-start s invariant run A w op f)
       (λ w o l ph b e. settled s invariant run A w o l ph e (phase-deed (s .memory) ph) (line (s .now) (s .memory) ph .does)
-        (line (s .now) (s .memory) ph .comes))
+        (line (s .now) (s .memory) ph .comes)) (omega arith)
 
-pub agrees : (limits : Limits) (cs : List Call) → Agrees (after-calls limits cs) (machine-notes limits cs)
-unfolding after-calls machine-notes fresh ledger
+pub agrees : (limits : Limits) (es : List Event) → Agrees (after-events limits es) (machine-notes limits es)
+unfolding after-events machine-notes fresh ledger
 agrees limits [] =
     record { now = refl; worker = λ w. tt; running = λ o e. let z : _≡_ {A = ℕ} 2 0 = ap ending-tag e in absurd (omega arith);
       fate = λ o. record { operation = refl; worker = refl; done = λ d. absurd (true≢false (sym d));
         answered = λ x e. let z : _≡_ {A = ℕ} 2 1 = ap ending-tag e in absurd (omega arith);
         refused = λ n d e. absurd (d (ap ending-number (sym e))) } }
-agrees limits (c ∷ cs) = call-agrees (after-calls limits cs) (machine-notes limits cs) (run-right limits cs) (agrees limits cs) c
+agrees limits (e ∷ es) = event-agrees (after-events limits es) (machine-notes limits es) (run-right limits es) (agrees limits es) e

@@ -52,3 +52,4 @@ pub mod LineEnds
 pub mod EffectLaws
 pub mod EffectsApart
 pub mod Promised
+pub mod BornTold

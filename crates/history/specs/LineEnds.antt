@@ -13,7 +13,7 @@ use Rattle.history.specs.Statements.{In}
 use Rattle.history.specs.Effects.{effects}
 use Rattle.history.specs.Machine.{Memory, Limits, Found, no-node, node, node-to-take, Phase, line-37, line-39, line-41, line-43, line-45,
     line-46, line-48, line-50, line-51, line-52, line-5, line-6, line-32, line-34, total-32, total-34, closing, line-20, line-21, line-22,
-    line-number, Next, on-45, line, Catalogue, after-calls}
+    line-number, Next, on-45, line, Catalogue, Event, after-events}
 use Rattle.history.specs.Places.{Invariant}
 use Rattle.history.specs.Run.{run-right}
 use Rattle.history.specs.NodeCount.{tally, limits-kept}
@@ -68,40 +68,40 @@ module _ (t : ℕ) (m : Memory) where
 note-ends : (s : Catalogue) → Invariant s → (c : Call) (w k : ℕ) (d : Deed) (e : Ending) → machine-note s c ≡ Notes.stepped w k d e →
     Ends (s .memory) k e
 note-ends s invariant c w k d e =
-    call-cases s invariant (λ (x : Note) (s' : Catalogue). x ≡ Notes.stepped w k d e → Ends (s .memory) k e)
-      (λ q. let z : _≡_ {A = ℕ} 0 3 = ap note-tag q in absurd (omega arith))
+    call-cases s invariant (s .memory .limits .workers) (omega arith) (λ (x : Note) (s' : Catalogue). x ≡ Notes.stepped w k d e → Ends (s .memory) k e)
+      (λ x _ q. let z : _≡_ {A = ℕ} 0 3 = ap note-tag q in absurd (omega arith))
       (λ v z p q. let z : _≡_ {A = ℕ} 1 3 = ap note-tag q in absurd (omega arith))
-      (λ w' op p q. let z : _≡_ {A = ℕ} 2 3 = ap note-tag q in absurd (omega arith))
+      (λ w' op b f p q. let z : _≡_ {A = ℕ} 2 3 = ap note-tag q in absurd (omega arith))
       (λ w' o l ph b is q. subst (λ (k : ℕ). Ends (s .memory) k e) (ap note-line q)
         (subst (λ (e : Ending). Ends (s .memory) (line-number ph) e) (ap note-ending q) (line-ends (s .now) (s .memory) ph))) c
 
 -- ---- in every run
 
-module _ (limits : Limits) (cs : List Call) where
+module _ (limits : Limits) (es : List Event) where
   abbrev s : Catalogue
-  s = after-calls limits cs
+  s = after-events limits es
   abbrev run : List Note
-  run = machine-notes limits cs
+  run = machine-notes limits es
 
   pub ends-45 : (c : Call) (w : ℕ) (d : Deed) (e : Ending) → machine-note s c ≡ Notes.stepped w 45 d e →
       (e ≡ Notes.ends-with 11) ↔ (nodes-in-use run ≡ limits .nodes)
   ends-45 c w d e z = (λ q. x .0 (ends .0 q), λ q. ends .1 (x .1 q))
     where
       ends : (e ≡ Notes.ends-with 11) ↔ (node-to-take (s .memory) ≡ no-node)
-      ends = note-ends s (run-right limits cs) c w 45 d e z .at-45 refl
+      ends = note-ends s (run-right limits es) c w 45 d e z .at-45 refl
       x : (node-to-take (s .memory) ≡ no-node) ↔ (nodes-in-use run ≡ limits .nodes)
-      x = subst (λ (y : Limits). (node-to-take (s .memory) ≡ no-node) ↔ (nodes-in-use run ≡ y .nodes)) (limits-kept limits cs)
-          (none-left-exactly s (tally limits cs) (nodes-in-use run) (in-use limits cs))
+      x = subst (λ (y : Limits). (node-to-take (s .memory) ≡ no-node) ↔ (nodes-in-use run ≡ y .nodes)) (limits-kept limits es)
+          (none-left-exactly s (tally limits es) (nodes-in-use run) (in-use limits es))
 
   same-limit : s .memory .limits .counter ≡ limits .counter
-  same-limit = ap (λ (y : Limits). y .counter) (limits-kept limits cs)
+  same-limit = ap (λ (y : Limits). y .counter) (limits-kept limits es)
 
   -- a handle in the list of effects is below the counter, and so below the limit
   counted : (h t : ℕ) → In (snapshot t h) (effects run) → h < s .memory .camera .counter
-  counted h t a = left-then (s .memory) h t (effected limits cs .memory .only (snapshot t h) a) .0
+  counted h t a = left-then (s .memory) h t (effected limits es .memory .only (snapshot t h) a) .0
 
   pub below-limit : (h t : ℕ) → In (snapshot t h) (effects run) → h < limits .counter
-  below-limit h t a = omega (arith, counted h t a, tally limits cs .within, same-limit)
+  below-limit h t a = omega (arith, counted h t a, tally limits es .within, same-limit)
 
   -- the counter has left the last handle exactly where it has reached its limit
   pub ends-5 : 0 < limits .counter → (c : Call) (w : ℕ) (d : Deed) (e : Ending) → machine-note s c ≡ Notes.stepped w 5 d e →
@@ -109,7 +109,7 @@ module _ (limits : Limits) (cs : List Call) where
   ends-5 some c w d e z = (λ q. there (ends .0 q), λ y. ends .1 (omega (arith, counted (pred (limits .counter)) (y .0) (y .1), same-limit)))
     where
       ends : (e ≡ Notes.ends-with 12) ↔ (s .memory .limits .counter ≤ s .memory .camera .counter)
-      ends = note-ends s (run-right limits cs) c w 5 d e z .at-5 refl
+      ends = note-ends s (run-right limits es) c w 5 d e z .at-5 refl
       there : s .memory .limits .counter ≤ s .memory .camera .counter → (t : ℕ) × In (snapshot t (pred (limits .counter))) (effects run)
       there p = (s .memory .camera .left-at (pred (limits .counter)),
-          effected limits cs .memory .snapshots (pred (limits .counter)) (omega (arith, same-limit)))
+          effected limits es .memory .snapshots (pred (limits .counter)) (omega (arith, same-limit)))

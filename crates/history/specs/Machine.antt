@@ -1,5 +1,5 @@
 -- The machine of versions. It answers every call as the words do, but it keeps each item as a row of versions, numbered from the oldest.
--- The time of a call is its index in the run, and an operation is named by the time of its start.
+-- The time of an event is its index in the run, and an operation is named by the time of its start.
 -- The times kept here, the authors, the fates and the places are for the proofs: no test reads them.
 use mathlib.Core.Bool.{Bool, true, false, not, cond, _||_}
 use mathlib.Core.List.{List, [], _∷_}
@@ -464,6 +464,28 @@ call s x = tick (move s x .leaves)
 unfoldable pub reply : Catalogue → Call → Answer
 reply s x = move s x .answer
 
+-- ---- events: what happens to the machine, one at a time. A call; or a step of a reader, who has the number P and no record, and makes vReads
+-- alone. No call of today is told as a reader's events.
+
+pub data Event : Type 0 where
+  called : Call → Event
+  reader-starts : (i : ℕ) → Event
+  reader-steps : Event
+
+abbrev pub reader : Catalogue → ℕ
+reader s = s .memory .limits .workers
+
+abbrev pub reader-refusals : Catalogue → ℕ → List Refusal
+reader-refusals s i = not (is-idle (s .worker (reader s))) ⇒ 4 ∷ start-refusals (s .memory) (v-read i)
+
+unfoldable pub event-move : Catalogue → Event → Move
+event-move s (called x) = move s x
+event-move s (reader-starts i) = unless s (reader-refusals s i) (record { answer = accepted 0; leaves = begun s (reader s) (v-read i) })
+event-move s reader-steps = stepped s (reader s) (s .worker (reader s))
+
+unfoldable pub happens : Catalogue → Event → Catalogue
+happens s e = tick (event-move s e .leaves)
+
 -- ---- runs
 
 abbrev pub no-item : Item
@@ -483,7 +505,7 @@ fresh limits =
       fate = λ o. record { operation = take-snapshot; worker = 0; done = false; answer = 0; ended-at = 0; lines = []; refusal = 0 };
       place = λ o. unplaced }
 
--- the calls, the newest first
-unfoldable pub after-calls : Limits → List Call → Catalogue
-after-calls limits [] = fresh limits
-after-calls limits (x ∷ cs) = call (after-calls limits cs) x
+-- the events, the newest first
+unfoldable pub after-events : Limits → List Event → Catalogue
+after-events limits [] = fresh limits
+after-events limits (x ∷ es) = happens (after-events limits es) x

@@ -2,7 +2,7 @@
 use mathlib.Core.Path.{_≡_, refl, sym, _∙_, subst}
 use mathlib.Core.Bool.{Bool, cond, not}
 use mathlib.Core.List.{List, [], _∷_}
-use Prim.Native.Nat.{ℕ, suc, pred, _+_, _<_}
+use Prim.Native.Nat.{ℕ, suc, pred, _+_, _<_, _≤_}
 use native.Mathlib.Omega.{arith}
 use lib.Dec.{T, ltb, eqb, nleb→lt}
 use Rattle.definitions.specs.Answers.{Refusal, accepted}
@@ -14,7 +14,8 @@ use Rattle.history.specs.Machine.{Memory, Limits, found, node-to-take, O
     line-37, line-39, line-41, line-43, line-45, line-46, line-48, line-50, line-51, line-52, line-5, line-6, line-32, line-34, total-32, total-34,
     closing, line-20, line-21, line-22, helped-item, line-number, Comes, goes-on, ends-with, answers-change, answers, line, Worker, idle, busy,
     Catalogue, settle, affect, Move, refused, unless, is-idle, no-worker, step-answer, worker-refusals, register-refusals, stepped, stepping, begun,
-    starting, registered, registering, move, reply, after-calls}
+    starting, registered, registering, move, reply, start-refusals, Event, called, reader-starts, reader-steps, reader, reader-refusals, event-move,
+    after-events}
 use Rattle.history.specs.RightAnswers.{RefusedLines, no-node-left, counter-full, ComesRight}
 use Rattle.history.specs.EachLine.{every-line}
 use Rattle.history.specs.Places.{Invariant, InOperation, WorkerRight}
@@ -58,9 +59,19 @@ worker-deed m (busy o l ph) = phase-deed m ph
 unfoldable pub machine-note : Catalogue → Call → Note
 machine-note s c = note-of c (reply s c) (λ w. worker-line (s .worker w)) (λ w. worker-deed (s .memory) (s .worker w))
 
-unfoldable pub machine-notes : Limits → List Call → List Note
+unfoldable pub event-note : Catalogue → Event → Note
+event-note s (called c) = machine-note s c
+event-note s (reader-starts i) = if-accepted (event-move s (reader-starts i) .answer) (Notes.started (reader s) (v-read i))
+event-note s reader-steps = step-note (reader s) (worker-line (s .worker (reader s))) (worker-deed (s .memory) (s .worker (reader s)))
+    (event-move s reader-steps .answer)
+
+-- what a quiet note tells: nothing
+abbrev pub Looked : Memory → Notes.Look → Type 0
+Looked m Notes.none = Unit {0}
+
+unfoldable pub machine-notes : Limits → List Event → List Note
 machine-notes limits [] = []
-machine-notes limits (c ∷ cs) = machine-note (after-calls limits cs) c ∷ machine-notes limits cs
+machine-notes limits (e ∷ es) = event-note (after-events limits es) e ∷ machine-notes limits es
 
 abbrev pub ending : Comes → Ending
 ending (goes-on ph) = Notes.goes-on
@@ -78,13 +89,17 @@ unless-move P s (r ∷ rs) x p f = by-test P (r .when) (λ e. p (r .number)) (λ
 abbrev pub after-step : Catalogue → (w o : ℕ) → List ℕ → Phase → Catalogue
 after-step s w o l ph = settle w o (line-number ph ∷ l) (affect o s (line (s .now) (s .memory) ph .does)) (line (s .now) (s .memory) ph .comes)
 
-module _ (s : Catalogue) (invariant : Invariant s) (P : Note → Catalogue → Type 0)
-  (on-refusal : P Notes.refused s)
+module _ (s : Catalogue) (invariant : Invariant s) (bound : ℕ) (all : s .memory .limits .workers ≤ bound) (P : Note → Catalogue → Type 0)
+  (on-quiet : (x : Notes.Look) → Looked (s .memory) x → P (Notes.quiet x) s)
   (on-register : (v z : ℕ) → Passed (register-refusals (s .memory) v) →
       P (Notes.registered (s .memory .items) v z) (registered s v z (found (node-to-take (s .memory)))))
-  (on-start : (w : ℕ) (op : Operation) → Passed (worker-refusals s w op) → P (Notes.started w op) (begun s w op))
-  (on-step : (w o : ℕ) (l : List ℕ) (ph : Phase) → w < s .memory .limits .workers → s .worker w ≡ busy o l ph →
+  (on-start : (w : ℕ) (op : Operation) → w < bound → T (not (not (is-idle (s .worker w)))) → Passed (start-refusals (s .memory) op) →
+      P (Notes.started w op) (begun s w op))
+  (on-step : (w o : ℕ) (l : List ℕ) (ph : Phase) → w < bound → s .worker w ≡ busy o l ph →
     P (Notes.stepped w (line-number ph) (phase-deed (s .memory) ph) (ending (line (s .now) (s .memory) ph .comes))) (after-step s w o l ph)) where
+
+  on-refusal : P Notes.refused s
+  on-refusal = on-quiet Notes.none tt
 
   -- a refusal is noted as one
   not-accepted : (n : ℕ) (x : Note) → P (cond (eqb (16 + n) 2) x Notes.refused) s
@@ -95,7 +110,8 @@ module _ (s : Catalogue) (invariant : Invariant s) (P : Note → Catalogue → T
   start-case w op =
       unless-move (λ (y : Move). P (if-accepted (y .answer) (Notes.started w op)) (y .leaves)) s (worker-refusals s w op)
           (record { answer = accepted 0; leaves = begun s w op })
-        (λ n. not-accepted n (Notes.started w op)) (λ x. on-start w op x)
+        (λ n. not-accepted n (Notes.started w op))
+        (λ x. on-start w op (omega (arith, nleb→lt (s .memory .limits .workers) w (x .0))) (x .1 .0) (x .1 .1))
 
   register-case : (v z : ℕ) → P (if-accepted (registering s v z .answer) (Notes.registered (registering s v z .answer .value) v z))
       (registering s v z .leaves)
@@ -120,6 +136,19 @@ module _ (s : Catalogue) (invariant : Invariant s) (P : Note → Catalogue → T
       at (counter-full e f g) y' q x = subst (λ (y : ℕ). P (step-note w k d (step-answer n (ends-with y))) s') (sym (q ∙ e))
           (subst (λ (y : ℕ). P (Notes.stepped w k d (Notes.ends-with y)) s') (q ∙ e) x)
 
+  -- a step of worker w, who is there
+  by-worker : (w : ℕ) → w < bound → (x : Worker) → s .worker w ≡ x →
+    P (step-note w (worker-line x) (worker-deed (s .memory) x) (stepped s w x .answer)) (stepped s w x .leaves)
+  by-worker w b idle e = unfold stepped in on-refusal
+  by-worker w b (busy o l ph) e = unfold stepped in
+      (step-noted w (line-number ph) (phase-deed (s .memory) ph) (line-number ph ∷ l) (line (s .now) (s .memory) ph .comes) _ _ _ _ _
+          (after-step s w o l ph)
+        (every-line (s .now) o l (s .memory) (invariant .kept .memory) (k .begun) ph (k .facts) .comes)
+        (on-step w o l ph b e))
+    where
+      k : InOperation (s .now) (s .memory) (s .fate o) (s .place o) w o l ph
+      k = subst (λ (x : Worker). WorkerRight (s .now) (s .memory) (s .fate) (s .place) w x) e (invariant .workers w)
+
   step-case : (w : ℕ) → P (step-note w (worker-line (s .worker w)) (worker-deed (s .memory) (s .worker w)) (stepping s w .answer)) (stepping s w .leaves)
   unfolding stepping
   step-case w = by-test (λ (y : Move). P (step-note w (worker-line (s .worker w)) (worker-deed (s .memory) (s .worker w)) (y .answer)) (y .leaves))
@@ -129,14 +158,7 @@ module _ (s : Catalogue) (invariant : Invariant s) (P : Note → Catalogue → T
         P (step-note w (worker-line x) (worker-deed (s .memory) x) (cond (is-idle x) (refused s 5) (stepped s w x) .answer))
             (cond (is-idle x) (refused s 5) (stepped s w x) .leaves)
       at b idle e = on-refusal
-      at b (busy o l ph) e = unfold stepped in
-          (step-noted w (line-number ph) (phase-deed (s .memory) ph) (line-number ph ∷ l) (line (s .now) (s .memory) ph .comes) _ _ _ _ _
-              (after-step s w o l ph)
-            (every-line (s .now) o l (s .memory) (invariant .kept .memory) (k .begun) ph (k .facts) .comes)
-            (on-step w o l ph (nleb→lt (s .memory .limits .workers) w b) e))
-        where
-          k : InOperation (s .now) (s .memory) (s .fate o) (s .place o) w o l ph
-          k = subst (λ (x : Worker). WorkerRight (s .now) (s .memory) (s .fate) (s .place) w x) e (invariant .workers w)
+      at b (busy o l ph) e = by-worker w (omega (arith, nleb→lt (s .memory .limits .workers) w b)) (busy o l ph) e
 
   pub call-cases : (c : Call) → P (machine-note s c) (move s c .leaves)
   unfolding machine-note reply move
@@ -148,3 +170,13 @@ module _ (s : Catalogue) (invariant : Invariant s) (P : Note → Catalogue → T
   call-cases (Call.read-snapshot w i h) = start-case w (read-snapshot i h)
   call-cases (Call.total w q h) = start-case w (total q h)
   call-cases (Call.step w) = step-case w
+
+  -- an event, where there is room for the reader
+  pub event-cases : s .memory .limits .workers < bound → (e : Event) → P (event-note s e) (event-move s e .leaves)
+  unfolding event-note event-move
+  event-cases b (called c) = call-cases c
+  event-cases b (reader-starts i) =
+      unless-move (λ (y : Move). P (if-accepted (y .answer) (Notes.started (reader s) (v-read i))) (y .leaves)) s (reader-refusals s i)
+          (record { answer = accepted 0; leaves = begun s (reader s) (v-read i) })
+        (λ n. not-accepted n (Notes.started (reader s) (v-read i))) (λ x. on-start (reader s) (v-read i) b (x .0) (x .1))
+  event-cases b reader-steps = by-worker (reader s) b (s .worker (reader s)) refl

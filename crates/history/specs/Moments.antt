@@ -6,7 +6,6 @@ use mathlib.Core.List.{List, [], _∷_}
 use Prim.Native.Nat.{ℕ, suc, _<_}
 use native.Mathlib.Omega.{arith}
 use lib.ListN.{length, getD}
-use Rattle.definitions.specs.Calls.{Call}
 use Rattle.history.specs.Tools.{put, put-all, put-same, put-other, Same, eq, ne, same?}
 use Rattle.history.specs.Definition1.{Follows}
 use Rattle.history.specs.Notes.{Deed, Note, ledger}
@@ -14,7 +13,7 @@ use Rattle.history.specs.Notes as Notes
 use Rattle.history.specs.Statements.{Executed}
 use Rattle.history.specs.Machine.{Entry, ended, turned-away, Item, Memory, Limits, found, node-to-take, Operation, take-snapshot, Phase,
     line-number, Comes, goes-on, ends-with, answers-change, answers, line, memory-after, newborn, Worker, busy, Catalogue, settle, affect, tick,
-    begun, registered, call, fresh, after-calls}
+    begun, registered, fresh, Event, happens, after-events}
 use Rattle.history.specs.Machine as Machine
 use Rattle.history.specs.Facts.{Later}
 use Rattle.history.specs.Changes.{effect-later}
@@ -24,7 +23,7 @@ use Rattle.history.specs.Places.{InOperation, WorkerRight, Invariant}
 use Rattle.history.specs.Run.{run-right}
 use Rattle.history.specs.NodeCount.{settle-memory}
 use Rattle.history.specs.OrderShown.{operation-tag}
-use Rattle.history.specs.MachineNotes.{machine-note, machine-notes, phase-deed, ending, after-step, call-cases}
+use Rattle.history.specs.MachineNotes.{event-note, machine-notes, phase-deed, ending, after-step, event-cases}
 use Rattle.history.specs.LedgerRight.{InLedger, Agrees, agrees}
 use Rattle.history.specs.Trace.{executed-more}
 
@@ -67,9 +66,9 @@ module _ (s : Catalogue) (invariant : Invariant s) (run : List Note) (A : Agrees
   unfolding memory-after
   stay = effect-later (invariant .kept .memory) 0 take-snapshot false Machine.nothing tt
 
-  after-refusal : Moments (tick s) (Notes.refused ∷ run)
+  after-quiet : (x : Notes.Look) → Moments (tick s) (Notes.quiet x ∷ run)
   unfolding tick
-  after-refusal = record { ends = λ o d. ended-more run Notes.refused o (s .fate o) (M .ends o d); births = born-more Notes.refused (s .memory) stay refl }
+  after-quiet x = record { ends = λ o d. ended-more run (Notes.quiet x) o (s .fate o) (M .ends o d); births = born-more (Notes.quiet x) (s .memory) stay refl }
 
   after-start : (w : ℕ) (op : Operation) → Moments (tick (begun s w op)) (Notes.started w op ∷ run)
   unfolding tick begun
@@ -158,16 +157,16 @@ module _ (s : Catalogue) (invariant : Invariant s) (run : List Note) (A : Agrees
         same-items (Machine.takes-node i b j y) = unfold memory-after in refl
         same-items (Machine.gives-back y) = unfold memory-after in refl
 
-call-moments : (s : Catalogue) (run : List Note) → Invariant s → Agrees s run → Moments s run → (c : Call) → Moments (call s c) (machine-note s c ∷ run)
-unfolding call
-call-moments s run invariant A M =
-    call-cases s invariant (λ (x : Note) (s' : Catalogue). Moments (tick s') (x ∷ run))
-      (after-refusal s invariant run A M)
+event-moments : (s : Catalogue) (run : List Note) → Invariant s → Agrees s run → Moments s run → (e : Event) → Moments (happens s e) (event-note s e ∷ run)
+unfolding happens
+event-moments s run invariant A M =
+    event-cases s invariant (suc (s .memory .limits .workers)) (omega arith) (λ (x : Note) (s' : Catalogue). Moments (tick s') (x ∷ run))
+      (λ x q. after-quiet s invariant run A M x)
       (λ v z p. after-register s invariant run A M v z (found (node-to-take (s .memory))))
-      (λ w op p. after-start s invariant run A M w op)
-      (λ w o l ph b e. after-line s invariant run A M w o l ph e)
+      (λ w op b f p. after-start s invariant run A M w op)
+      (λ w o l ph b e. after-line s invariant run A M w o l ph e) (omega arith)
 
-pub moments : (limits : Limits) (cs : List Call) → Moments (after-calls limits cs) (machine-notes limits cs)
-unfolding after-calls machine-notes fresh
+pub moments : (limits : Limits) (es : List Event) → Moments (after-events limits es) (machine-notes limits es)
+unfolding after-events machine-notes fresh
 moments limits [] = record { ends = λ o d. absurd (true≢false (sym d)); births = λ i p. absurd (omega arith) }
-moments limits (c ∷ cs) = call-moments (after-calls limits cs) (machine-notes limits cs) (run-right limits cs) (agrees limits cs) (moments limits cs) c
+moments limits (e ∷ es) = event-moments (after-events limits es) (machine-notes limits es) (run-right limits es) (agrees limits es) (moments limits es) e

@@ -16,7 +16,7 @@ use Rattle.history.specs.Machine.{Item, Memory, Limits, Found, no-node, 
     line-32, line-34, total-32, total-34, closing, line-20, line-21, line-22, after, total-at, helped-item, line-number, Effect, nothing, counts,
     publishes, stamps, takes-node, gives-back, Comes, goes-on, ends-with, answers-change, answers, Next, on-45, line, memory-after, published,
     stamped, Worker, idle, busy, Catalogue, tick, settle, affect, is-idle, newborn, step-refusals, worker-refusals, register-refusals, stepped,
-    stepping, first-phase, begun, starting, registered, registering, move, call, fresh, after-calls}
+    stepping, first-phase, begun, starting, registered, registering, move, call, fresh, Event, called, reader-starts, reader-steps, reader, reader-refusals, event-move, happens, after-events}
 use Rattle.history.specs.Changes.{Allowed}
 use Rattle.history.specs.PhaseFacts.{PhaseFacts}
 use Rattle.history.specs.RightAnswers.{phase-operation, has-published, LineRight}
@@ -151,7 +151,7 @@ line-holds t o l m (line-22 c j n r) z = by-lt (λ (e : Effect). HoldsRight m 0 
 -- ---- the count
 
 pub record Tally (s : Catalogue) : Type 0 where
-  pub count : sum-to (λ w. worker-holds (s .worker w)) (s .memory .limits .workers) + length (s .memory .pool .given-back) + sum-to
+  pub count : sum-to (λ w. worker-holds (s .worker w)) (suc (s .memory .limits .workers)) + length (s .memory .pool .given-back) + sum-to
       (λ i. s .memory .item i .versions) (s .memory .items) ≡ s .memory .pool .used
   pub fits : s .memory .pool .used ≤ s .memory .limits .nodes
   pub room : s .memory .items ≤ s .memory .limits .items
@@ -259,14 +259,14 @@ module _ (s : Catalogue) (invariant : Invariant s) (Y : Tally s) where
   same-workers o (takes-node i b j y) = refl
   same-workers o (gives-back y) = refl
 
-  step-tally : (w : ℕ) (x : Worker) → s .worker w ≡ x → w < s .memory .limits .workers → WorkerRight (s .now) (s .memory) (s .fate) (s .place) w x →
+  step-tally : (w : ℕ) (x : Worker) → s .worker w ≡ x → w < suc (s .memory .limits .workers) → WorkerRight (s .now) (s .memory) (s .fate) (s .place) w x →
       Tally (tick (stepped s w x .leaves))
   unfolding tick stepped affect
   step-tally w idle e b k = still
   step-tally w (busy o l ph) e b k =
       subst (λ (m : Memory). Counted m) (sym (settle-memory w o (line-number ph ∷ l) (affect o s (x .does)) (x .comes)))
         (record {
-          count = ap (λ (y : Limits). sum-to (λ w. worker-holds (after .worker w)) (y .workers) + length (m' .pool .given-back) + sum-to
+          count = ap (λ (y : Limits). sum-to (λ w. worker-holds (after .worker w)) (suc (y .workers)) + length (m' .pool .given-back) + sum-to
               (λ i. m' .item i .versions) (m' .items)) (same-workers o (x .does)) ∙ c .0;
           fits = c .1; room = limited o (holds ph) (comes-holds (x .comes)) (x .does) h .0; within = limited o (holds ph) (comes-holds (x .comes))
               (x .does) h .1 })
@@ -283,18 +283,18 @@ module _ (s : Catalogue) (invariant : Invariant s) (Y : Tally s) where
       h = line-holds (s .now) o l (s .memory) ph (k .facts)
       right : LineRight (s .now) o l (s .memory) ph x
       right = every-line (s .now) o l (s .memory) (invariant .kept .memory) (k .begun) ph (k .facts)
-      sums : sum-to (λ w. worker-holds (after .worker w)) (s .memory .limits .workers) + holds ph ≡ sum-to (λ w. worker-holds (s .worker w))
-          (s .memory .limits .workers) + comes-holds (x .comes)
+      sums : sum-to (λ w. worker-holds (after .worker w)) (suc (s .memory .limits .workers)) + holds ph ≡ sum-to (λ w. worker-holds (s .worker w))
+          (suc (s .memory .limits .workers)) + comes-holds (x .comes)
       sums =
-          subst (λ (n : ℕ). sum-to (λ w. worker-holds (after .worker w)) (s .memory .limits .workers) + holds ph ≡ sum-to
-              (λ w. worker-holds (s .worker w)) (s .memory .limits .workers) + n)
+          subst (λ (n : ℕ). sum-to (λ w. worker-holds (after .worker w)) (suc (s .memory .limits .workers)) + holds ph ≡ sum-to
+              (λ w. worker-holds (s .worker w)) (suc (s .memory .limits .workers)) + n)
             (settle-worker w o _ (affect o s (x .does)) (x .comes) w ∙ put-same (λ w. worker-holds (s .worker w)) w (comes-holds (x .comes)) w refl)
-            (subst (λ (n : ℕ). sum-to (λ w. worker-holds (after .worker w)) (s .memory .limits .workers) + n ≡ sum-to (λ w. worker-holds (s .worker w))
-                (s .memory .limits .workers) + worker-holds (after .worker w)) (ap worker-holds e)
-              (sum-change (λ w. worker-holds (s .worker w)) (λ w. worker-holds (after .worker w)) w (s .memory .limits .workers) b
+            (subst (λ (n : ℕ). sum-to (λ w. worker-holds (after .worker w)) (suc (s .memory .limits .workers)) + n ≡ sum-to (λ w. worker-holds (s .worker w))
+                (suc (s .memory .limits .workers)) + worker-holds (after .worker w)) (ap worker-holds e)
+              (sum-change (λ w. worker-holds (s .worker w)) (λ w. worker-holds (after .worker w)) w (suc (s .memory .limits .workers)) b
                 (λ w' q. settle-worker w o _ (affect o s (x .does)) (x .comes) w'
                     ∙ put-other (λ w. worker-holds (s .worker w)) w (comes-holds (x .comes)) w' q)))
-      c : (sum-to (λ w. worker-holds (after .worker w)) (s .memory .limits .workers) + length (m' .pool .given-back) + sum-to (λ i. m' .item i .versions)
+      c : (sum-to (λ w. worker-holds (after .worker w)) (suc (s .memory .limits .workers)) + length (m' .pool .given-back) + sum-to (λ i. m' .item i .versions)
           (m' .items) ≡ m' .pool .used) × (m' .pool .used ≤ m' .limits .nodes)
       c = counted o (holds ph) (comes-holds (x .comes)) _ _ (x .does) sums h (phase-operation ph) (has-published ph) (right .does) (Y .count)
 
@@ -312,7 +312,7 @@ module _ (s : Catalogue) (invariant : Invariant s) (Y : Tally s) where
   begun-tally w op e =
       record {
         count = ap (λ (n : ℕ). n + length (s .memory .pool .given-back) + sum-to (λ i. s .memory .item i .versions) (s .memory .items))
-          (sum-same (λ w. worker-holds (s .worker w)) _ (s .memory .limits .workers)
+          (sum-same (λ w. worker-holds (s .worker w)) _ (suc (s .memory .limits .workers))
               (λ w' p. put-all (λ (w' : ℕ) (x : Worker). worker-holds x ≡ worker-holds (s .worker w')) (s .worker) w _ w'
             (λ q. first-holds op ∙ sym (none (s .worker w') (subst (λ (w : ℕ). T (is-idle (s .worker w))) (sym q) e))) (λ q. refl))) ∙ Y .count;
         fits = Y .fits; room = Y .room; within = Y .within }
@@ -368,7 +368,20 @@ module _ (s : Catalogue) (invariant : Invariant s) (Y : Tally s) where
   call-tally (Call.total w q h) = start-tally w (total q h)
   call-tally (Call.step w) =
       unless-all (λ (s : Catalogue). Tally (tick s)) s (step-refusals s w) (stepped s w (s .worker w)) still
-        (λ x. step-tally w (s .worker w) refl (nleb→lt (s .memory .limits .workers) w (x .0)) (invariant .workers w))
+        (λ x. step-tally w (s .worker w) refl (omega (arith, nleb→lt (s .memory .limits .workers) w (x .0))) (invariant .workers w))
+
+  event-tally : (e : Event) → Tally (happens s e)
+  unfolding happens event-move
+  event-tally (called c) = unfold call in (call-tally c)
+  event-tally (reader-starts i) =
+      unless-all (λ (s : Catalogue). Tally (tick s)) s (reader-refusals s i)
+        (record { answer = accepted 0; leaves = begun s (reader s) (v-read i) }) still
+          (λ x. begun-tally (reader s) (v-read i) (not-not (is-idle (s .worker (reader s))) (x .0)))
+    where
+      not-not : (b : Bool) → T (not (not b)) → T b
+      not-not true t = tt
+      not-not false t = t
+  event-tally reader-steps = step-tally (reader s) (s .worker (reader s)) refl (omega arith) (invariant .workers (reader s))
 
 -- the limits never change
 pub same-limits : (t o : ℕ) (m : Memory) (e : Effect) → memory-after t o e m .limits ≡ m .limits
@@ -405,10 +418,17 @@ call-limits s (Call.total w q h) = unless-all (λ (s' : Catalogue). s' .memory .
 call-limits s (Call.step w) = unless-all (λ (s' : Catalogue). s' .memory .limits ≡ s .memory .limits) s (step-refusals s w)
     (stepped s w (s .worker w)) refl (λ x. step-limits s w (s .worker w))
 
-pub limits-kept : (limits : Limits) (cs : List Call) → after-calls limits cs .memory .limits ≡ limits
-unfolding after-calls fresh
+event-limits : (s : Catalogue) (e : Event) → happens s e .memory .limits ≡ s .memory .limits
+unfolding happens event-move tick begun
+event-limits s (called c) = unfold call in (call-limits s c)
+event-limits s (reader-starts i) = unless-all (λ (s' : Catalogue). s' .memory .limits ≡ s .memory .limits) s (reader-refusals s i)
+    (record { answer = accepted 0; leaves = begun s (reader s) (v-read i) }) refl (λ x. refl)
+event-limits s reader-steps = step-limits s (reader s) (s .worker (reader s))
+
+pub limits-kept : (limits : Limits) (es : List Event) → after-events limits es .memory .limits ≡ limits
+unfolding after-events fresh
 limits-kept limits [] = refl
-limits-kept limits (x ∷ cs) = call-limits (after-calls limits cs) x ∙ limits-kept limits cs
+limits-kept limits (x ∷ es) = event-limits (after-events limits es) x ∙ limits-kept limits es
 
 zero-sum : (n : ℕ) → sum-to (λ w. 0) n ≡ 0
 unfolding sum-to
@@ -416,10 +436,10 @@ zero-sum zero = refl
 zero-sum (suc n) = omega (arith, zero-sum n)
 
 -- after every run the nodes are counted
-pub tally : (limits : Limits) (cs : List Call) → Tally (after-calls limits cs)
-unfolding after-calls fresh
+pub tally : (limits : Limits) (es : List Event) → Tally (after-events limits es)
+unfolding after-events fresh
 tally limits [] = record { count = none limits; fits = omega arith; room = omega arith; within = omega arith }
   where
-    none : (limits : Limits) → sum-to (λ w. 0) (limits .workers) + 0 + sum-to (λ i. 0) 0 ≡ 0
-    none limits = omega (arith, zero-sum (limits .workers), zero-sum 0)
-tally limits (x ∷ cs) = call-tally (after-calls limits cs) (run-right limits cs) (tally limits cs) x
+    none : (limits : Limits) → sum-to (λ w. 0) (suc (limits .workers)) + 0 + sum-to (λ i. 0) 0 ≡ 0
+    none limits = omega (arith, zero-sum (suc (limits .workers)), zero-sum 0)
+tally limits (x ∷ es) = event-tally (after-events limits es) (run-right limits es) (tally limits es) x

@@ -7,18 +7,17 @@ use Prim.Native.Nat.{ℕ, suc, pred, _+_, _≤_, _<_}
 use native.Mathlib.Omega.{arith}
 use lib.Dec.{T}
 use lib.ListN.{length}
-use Rattle.definitions.specs.Calls.{Call}
 use Rattle.history.specs.Tools.{by-eq, by-lt, by-le}
 use Rattle.history.specs.Notes.{Deed, Note, nodes-in-use}
 use Rattle.history.specs.Notes as Notes
 use Rattle.history.specs.Machine.{Memory, Limits, Found, no-node, node, first-free, node-to-take, found, one-taken,
     one-returned, Phase, line-37, line-39, line-41, line-43, line-45, line-46, line-48, line-50, line-51, line-52, line-5, line-6, line-32, line-34,
     total-32, total-34, closing, line-20, line-21, line-22, helped-item, line-number, Effect, Next, on-45, line, memory-after, busy,
-    Catalogue, affect, tick, begun, registered, register-refusals, none-left, call, fresh, after-calls}
+    Catalogue, affect, tick, begun, registered, register-refusals, none-left, fresh, Event, happens, after-events}
 use Rattle.history.specs.Places.{Invariant}
 use Rattle.history.specs.Run.{Passed, run-right}
 use Rattle.history.specs.NodeCount.{sum-to, sum-rises, holds, worker-holds, settle-memory, Tally, taken-count, tally}
-use Rattle.history.specs.MachineNotes.{machine-note, machine-notes, phase-deed, ending, after-step, call-cases}
+use Rattle.history.specs.MachineNotes.{event-note, machine-notes, phase-deed, ending, after-step, event-cases}
 
 -- ---- one more note
 
@@ -86,15 +85,15 @@ module _ (s : Catalogue) (invariant : Invariant s) (Y : Tally s) (run : List Not
       at (node y) e t = one-more (s .memory) (nodes-in-use run) y e (Y .fits) C
 
   -- a worker that holds a node has one in use
-  held : (w o : ℕ) (l : List ℕ) (ph : Phase) → w < s .memory .limits .workers → s .worker w ≡ busy o l ph → holds ph ≡ 1 → 0 < nodes-in-use run
+  held : (w o : ℕ) (l : List ℕ) (ph : Phase) → w < suc (s .memory .limits .workers) → s .worker w ≡ busy o l ph → holds ph ≡ 1 → 0 < nodes-in-use run
   held w o l ph b e h =
-      omega (arith, C, Y .count, ap worker-holds e, sum-rises (λ w. worker-holds (s .worker w)) (suc w) (s .memory .limits .workers) b,
+      omega (arith, C, Y .count, ap worker-holds e, sum-rises (λ w. worker-holds (s .worker w)) (suc w) (suc (s .memory .limits .workers)) b,
         last)
     where
       last : sum-to (λ w. worker-holds (s .worker w)) (suc w) ≡ worker-holds (s .worker w) + sum-to (λ w. worker-holds (s .worker w)) w
       last = unfold sum-to in refl
 
-  after-line : (w o : ℕ) (l : List ℕ) (ph : Phase) → w < s .memory .limits .workers → s .worker w ≡ busy o l ph → InUse (after-step s w o l ph)
+  after-line : (w o : ℕ) (l : List ℕ) (ph : Phase) → w < suc (s .memory .limits .workers) → s .worker w ≡ busy o l ph → InUse (after-step s w o l ph)
       (Notes.stepped w (line-number ph) (phase-deed (s .memory) ph) (ending (line (s .now) (s .memory) ph .comes)) ∷ run)
   unfolding affect
   after-line w o l ph b e =
@@ -103,16 +102,16 @@ module _ (s : Catalogue) (invariant : Invariant s) (Y : Tally s) (run : List Not
         (sym (settle-memory w o (line-number ph ∷ l) (affect o s (line (s .now) (s .memory) ph .does)) (line (s .now) (s .memory) ph .comes)))
         (line-counts (s .now) o w (s .memory) run (Y .fits) C ph (phase-deed (s .memory) ph) (held w o l ph b e))
 
-  call-counts : (c : Call) → InUse (call s c) (machine-note s c ∷ run)
-  unfolding call tick
-  call-counts =
-      call-cases s invariant (λ (x : Note) (s' : Catalogue). InUse (tick s') (x ∷ run))
-        (unfold nodes-in-use in C) after-register (λ w op p. unfold nodes-in-use begun in C) after-line
+  event-counts : (e : Event) → InUse (happens s e) (event-note s e ∷ run)
+  unfolding happens tick
+  event-counts =
+      event-cases s invariant (suc (s .memory .limits .workers)) (omega arith) (λ (x : Note) (s' : Catalogue). InUse (tick s') (x ∷ run))
+        (λ x q. unfold nodes-in-use in C) after-register (λ w op b f p. unfold nodes-in-use begun in C) after-line (omega arith)
 
-pub in-use : (limits : Limits) (cs : List Call) → Counted (after-calls limits cs .memory) (nodes-in-use (machine-notes limits cs))
-unfolding after-calls machine-notes fresh nodes-in-use
+pub in-use : (limits : Limits) (es : List Event) → Counted (after-events limits es .memory) (nodes-in-use (machine-notes limits es))
+unfolding after-events machine-notes fresh nodes-in-use
 in-use limits [] = refl
-in-use limits (c ∷ cs) = call-counts (after-calls limits cs) (run-right limits cs) (tally limits cs) (machine-notes limits cs) (in-use limits cs) c
+in-use limits (e ∷ es) = event-counts (after-events limits es) (run-right limits es) (tally limits es) (machine-notes limits es) (in-use limits es) e
 
 -- ---- no node is left exactly where all are in use
 

@@ -39,31 +39,31 @@ ending-number (Notes.answers x) = x
 ending-number (Notes.ends-with n) = n
 
 abbrev pub note-tag : Note → ℕ
-note-tag Notes.refused = 0
+note-tag (Notes.quiet x) = 0
 note-tag (Notes.registered i v s) = 1
 note-tag (Notes.started w op) = 2
 note-tag (Notes.stepped w k d e) = 3
 
 abbrev pub note-worker : Note → ℕ
-note-worker Notes.refused = 0
+note-worker (Notes.quiet x) = 0
 note-worker (Notes.registered i v s) = 0
 note-worker (Notes.started w op) = 0
 note-worker (Notes.stepped w k d e) = w
 
 abbrev pub note-line : Note → ℕ
-note-line Notes.refused = 0
+note-line (Notes.quiet x) = 0
 note-line (Notes.registered i v s) = 0
 note-line (Notes.started w op) = 0
 note-line (Notes.stepped w k d e) = k
 
 abbrev pub note-deed : Note → Deed
-note-deed Notes.refused = Notes.nothing
+note-deed (Notes.quiet x) = Notes.nothing
 note-deed (Notes.registered i v s) = Notes.nothing
 note-deed (Notes.started w op) = Notes.nothing
 note-deed (Notes.stepped w k d e) = d
 
 abbrev pub note-ending : Note → Ending
-note-ending Notes.refused = Notes.goes-on
+note-ending (Notes.quiet x) = Notes.goes-on
 note-ending (Notes.registered i v s) = Notes.goes-on
 note-ending (Notes.started w op) = Notes.goes-on
 note-ending (Notes.stepped w k d e) = e

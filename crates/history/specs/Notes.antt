@@ -1,5 +1,5 @@
 -- What a call did, noted by one who sees the words before it, the call and its answer. A run is told by its notes, and so is
--- what each operation came to, and what took effect when.
+-- what each operation came to, and what took effect when. Time is the index of a note.
 use mathlib.Core.Path.{_≡_}
 use mathlib.Core.Logic.{_≢_}
 use Prim.Native.Nat.{ℕ, suc, pred, _+_, _<_}
@@ -30,12 +30,20 @@ pub data Ending : Type 0 where
   answers : (x : ℕ) → Ending
   ends-with : (number : ℕ) → Ending
 
--- what a call was
+-- what a call that changed nothing looked at
+pub data Look : Type 0 where
+  none : Look
+
+-- what happened
 pub data Note : Type 0 where
-  refused : Note                                      -- the call was refused, and changed nothing
+  quiet : Look → Note                                 -- nothing changed
   registered : (i v s : ℕ) → Note
   started : (w : ℕ) → Operation → Note
   stepped : (w line : ℕ) → Deed → Ending → Note       -- worker w executed a line
+
+-- a call was refused
+abbrev pub refused : Note
+refused = quiet none
 
 -- ---- reading the words
 
@@ -87,6 +95,10 @@ note ws c =
     let m = cells-of ws in
     note-of c (outcome ws c .answer) (λ w. row-of (m (phase w)) .line) (λ w. deed-at (row-of (m (phase w)) .line) m w)
 
+-- all that is told of a call, the newest first: one note
+unfoldable pub told : List ℕ → Call → List Note
+told ws c = note ws c ∷ []
+
 -- ---- runs: the calls and the notes, the newest first
 
 unfoldable pub words-after : List ℕ → List Call → List ℕ
@@ -95,7 +107,7 @@ words-after ws (c ∷ cs) = outcome (words-after ws cs) c .words
 
 unfoldable pub notes : List ℕ → List Call → List Note
 notes ws [] = []
-notes ws (c ∷ cs) = note (words-after ws cs) c ∷ notes ws cs
+notes ws (c ∷ cs) = told (words-after ws cs) c ++ notes ws cs
 
 -- A run begins on the words that an accepted make leaves.
 abbrev pub start : List ℕ → (p m n q c : ℕ) → List ℕ
@@ -115,17 +127,23 @@ abbrev pub Run : List ℕ → List Call → Type 0
 Run ws [] = Unit {0}
 Run ws (x ∷ cs) = Run ws cs × Run-call (words-after ws cs) x
 
+-- A history has the words now and all that is told since the last accepted make, with p workers, m items, n nodes, q projects and a counter up to c.
+pub data History (p m n q c : ℕ) : List ℕ → List Note → Type 0 where
+  made : (ws : List ℕ) → outcome ws (Call.make p m n q c) .answer .code ≡ 2 → History p m n q c (start ws p m n q c) []
+  called : {now : List ℕ} {run : List Note} → History p m n q c now run → (x : Call) → Run-call now x →
+    History p m n q c (outcome now x .words) (told now x ++ run)
+
 -- the code of refusal 2
 abbrev pub damaged-code : ℕ
 damaged-code = 18
 
--- ---- what each operation came to, written down from the notes; it is named by the time of its start, the index of that call
+-- ---- what each operation came to, written down from the notes; it is named by the time of its start
 
 pub record Fate : Type 0 where
   pub operation : Operation
   pub worker : ℕ
   pub lines : List ℕ       -- the lines that it has executed, the newest first
-  pub ending : Ending      -- how its latest call left it
+  pub ending : Ending      -- how its latest note left it
   pub at : ℕ               -- and when that was
 
 pub record Ledger : Type 0 where
@@ -138,9 +156,9 @@ begins op w e t = record { operation = op; worker = w; lines = []; ending = e; a
 abbrev pub continues : Fate → (line : ℕ) → Ending → (t : ℕ) → Fate
 continues f line e t = record { operation = f .operation; worker = f .worker; lines = line ∷ f .lines; ending = e; at = t }
 
--- the entry of a call at t
+-- the entry of a note at t
 unfoldable pub entered : ℕ → Note → Ledger → Ledger
-entered t refused l = l
+entered t (quiet x) l = l
 entered t (registered i v s) l = record { fate = put (l .fate) t (begins (register i v s) 0 (answers i) t); current = l .current }
 entered t (started w op) l = record { fate = put (l .fate) t (begins op w goes-on t); current = put (l .current) w t }
 entered t (stepped w line d e) l =
@@ -154,7 +172,7 @@ ledger (x ∷ past) = entered (length past) x (ledger past)
 -- how many nodes are in use: a register takes one, a line 45 that goes on takes one, a line 50 gives one back
 unfoldable pub nodes-in-use : List Note → ℕ
 nodes-in-use [] = 0
-nodes-in-use (refused ∷ past) = nodes-in-use past
+nodes-in-use (quiet x ∷ past) = nodes-in-use past
 nodes-in-use (registered i v s ∷ past) = suc (nodes-in-use past)
 nodes-in-use (started w op ∷ past) = nodes-in-use past
 nodes-in-use (stepped w line d goes-on ∷ past) = let n = nodes-in-use past in cond (eqb line 45) (suc n) (cond (eqb line 50) (pred n) n)

@@ -6,14 +6,13 @@ use mathlib.Core.List.{List, [], _∷_, map}
 use Prim.Native.Nat.{ℕ, zero, suc, _*_, _≤_, _<_}
 use native.Mathlib.Omega.{arith}
 use lib.ListN.{getD}
-use Rattle.definitions.specs.Calls.{Call}
 use Rattle.history.specs.Tools.{Split, split, Same, eq, ne, same?}
 use Rattle.history.specs.Definition1.{Operation, register, v-read, v-cas, take-snapshot, read-snapshot, total, Act, Legal}
 use Rattle.history.specs.Notes.{Note, ledger, snapshot}
 use Rattle.history.specs.Notes as Notes
 use Rattle.history.specs.Statements.{Executed, Moved, ChangeInstant, LossInstant, TakeInstant, CasInstant, Instant}
 use Rattle.history.specs.Statements as Told
-use Rattle.history.specs.Machine.{Limits, Place, Catalogue, after-calls}
+use Rattle.history.specs.Machine.{Event, Limits, Place, Catalogue, after-events}
 use Rattle.history.specs.Places.{asked-for, PlaceRight, Invariant}
 use Rattle.history.specs.Facts.{CounterWas}
 use Rattle.history.specs.Run.{run-right}
@@ -159,11 +158,11 @@ module _ (s : Catalogue) (invariant : Invariant s) (run : List Note) (T : Traced
           (sym (A .fate o .operation)) (acts-same l)
 
 -- demand 2, for the notes of every run of the machine
-pub notes-order : (limits : Limits) (cs : List Call) → Told.OneOrder (machine-notes limits cs)
-notes-order limits cs = told (after-calls limits cs) (run-right limits cs) (machine-notes limits cs) (traced limits cs) (effected limits cs) (agrees limits cs)
-    (moments limits cs)
+pub notes-order : (limits : Limits) (es : List Event) → Told.OneOrder (machine-notes limits es)
+notes-order limits es = told (after-events limits es) (run-right limits es) (machine-notes limits es) (traced limits es) (effected limits es) (agrees limits es)
+    (moments limits es)
 
-pub notes-order-is : (limits : Limits) (cs : List Call) → notes-order limits cs .order ≡ order-to (after-calls limits cs .memory)
-    (after-calls limits cs .place) (after-calls limits cs .now) (2 * after-calls limits cs .now)
+pub notes-order-is : (limits : Limits) (es : List Event) → notes-order limits es .order ≡ order-to (after-events limits es .memory)
+    (after-events limits es .place) (after-events limits es .now) (2 * after-events limits es .now)
 unfolding notes-order told
-notes-order-is limits cs = order-is (after-calls limits cs) (run-right limits cs)
+notes-order-is limits es = order-is (after-events limits es) (run-right limits es)

@@ -7,13 +7,12 @@ use Prim.Native.Nat.{ℕ, zero, suc, _+_, _*_, _≤_, _<_}
 use native.Mathlib.Omega.{arith}
 use lib.Dec.{T, eqb, eqb→eq, eqb-refl}
 use Rattle.history.specs.Tools.{by-eq}
-use Rattle.history.specs.Machine.{Item, Operation, register, v-read, v-cas, take-snapshot, read-snapshot, total, Place, unplaced, awaits,
-    changes, observes, Catalogue, Limits, after-calls}
+use Rattle.history.specs.Machine.{Event, Item, Operation, register, v-read, v-cas, take-snapshot, read-snapshot, total, Place, unplaced, awaits,
+    changes, observes, Catalogue, Limits, after-events}
 use Rattle.history.specs.Facts.{Sees}
 use Rattle.history.specs.RightAnswers.{RightAnswer, CasSees, AtHead, AtLoss, AtLastStep}
 use Rattle.history.specs.Places.{asked-for, ChangeRight, ObserverRight, PlaceRight, Invariant}
 use Rattle.history.specs.Definition1.{object}
-use Rattle.definitions.specs.Calls.{Call}
 use Rattle.history.specs.Run.{run-right}
 use Rattle.history.specs.MachineOrder.{time-of, Pending, Within, inside, in-call, CasInstant, by-change, at-43, at-52, Instants, MachineOrder}
 use Rattle.history.specs.OrderList.{keyed, answer-at, acts-of, slot-onto, order-to, Good, listed-skip, listed-take, listed-next, shown-skip,
@@ -60,7 +59,7 @@ module _ (s : Catalogue) (invariant : Invariant s) where
             falling = tt; keys = tt };
         shown = record { shown = λ i. 0; shown-valid = λ i. omega arith; before = λ i j p. absurd (omega arith);
             before-same = λ i j p e. absurd (omega arith); after = λ i j p q. omega arith; after-same = λ i j p q e. omega arith; value = λ i. refl;
-            items = 0; items-is = refl; low = λ i p. absurd (omega arith); high = λ i p. refl; sizes = λ i p. absurd (omega arith);
+            items = 0; items-is = refl; low = λ i p. absurd (omega arith); high = λ i p. refl; sizes = λ i p. absurd (omega arith); all-born = λ i p. absurd (omega arith);
             snaps = λ h p t. absurd t; legal = tt } }
   good-order (suc k) = next (good-slot (s .now) (omega arith) (good-order k))
     where
@@ -249,5 +248,5 @@ unfolding has-one-order
 order-is s invariant = refl
 
 -- demand 2, for this machine
-pub one-order : (limits : Limits) (cs : List Call) → MachineOrder (after-calls limits cs)
-one-order limits cs = has-one-order (after-calls limits cs) (run-right limits cs)
+pub one-order : (limits : Limits) (es : List Event) → MachineOrder (after-events limits es)
+one-order limits es = has-one-order (after-events limits es) (run-right limits es)

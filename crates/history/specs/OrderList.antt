@@ -1,7 +1,7 @@
 -- The list of the placed operations: by keys, twice the time, and one more for those that see and do not change.
 use mathlib.Core.Path.{_≡_, refl, ap, ap₂, sym, _∙_, subst}
 use mathlib.Core.Logic.{_≢_, inl, inr}
-use mathlib.Core.Bool.{Bool, false, cond}
+use mathlib.Core.Bool.{Bool, true, false, cond}
 use mathlib.Core.List.{List, [], _∷_, map}
 use Prim.Native.Nat.{ℕ, zero, suc, _+_, _*_, _≤_, _<_}
 use native.Mathlib.Omega.{arith}
@@ -88,6 +88,7 @@ module _ (s : Catalogue) (invariant : Invariant s) where
     pub have : (i : ℕ) → i < x .items → 0 < s .memory .item i .valid
     pub high : (i : ℕ) → x .items ≤ i → 0 < s .memory .item i .valid → s .memory .camera .left-at h < s .memory .item i .effect-at 0
     pub sizes : (i : ℕ) → i < x .items → x .size i ≡ s .memory .item i .size
+    pub all-born : (i : ℕ) → i < x .items → x .born i ≡ true
 
   -- cur i: how many versions of item i have taken effect in l; nreg: how many items
   pub record Shown (k n : ℕ) (l : List ℕ) : Type 0 where
@@ -103,6 +104,7 @@ module _ (s : Catalogue) (invariant : Invariant s) where
     pub low : (i : ℕ) → i < items → 0 < shown i
     pub high : (i : ℕ) → items ≤ i → shown i ≡ 0
     pub sizes : (i : ℕ) → i < items → object (acts-of l) .size i ≡ s .memory .item i .size
+    pub all-born : (i : ℕ) → i < items → object (acts-of l) .born i ≡ true
     pub snaps : (h : ℕ) (p : List Act) → Answered take-snapshot h p (acts-of l) → Shot h (object p)
     pub legal : Legal (acts-of l)
 
@@ -196,7 +198,7 @@ module _ (s : Catalogue) (invariant : Invariant s) where
   shown-skip {k} {n} {l} B d =
       record {
         shown = B .shown; shown-valid = B .shown-valid; before = B .before; after = B .after; value = B .value; items = B .items; items-is = B .items-is;
-            low = B .low; high = B .high; sizes = B .sizes; snaps = B .snaps; legal = B .legal;
+            low = B .low; high = B .high; sizes = B .sizes; all-born = B .all-born; snaps = B .snaps; legal = B .legal;
         before-same = λ i j p e. omega (arith, B .before-same i j p e);
         after-same = λ i j p q e. omega (arith, B .after-same i j p q e, other i j q e) }
     where
@@ -209,7 +211,7 @@ module _ (s : Catalogue) (invariant : Invariant s) where
   shown-next {k} {l} B =
       record {
         shown = B .shown; shown-valid = B .shown-valid; value = B .value; items = B .items; items-is = B .items-is; low = B .low; high = B .high;
-            sizes = B .sizes; snaps = B .snaps; legal = B .legal;
+            sizes = B .sizes; all-born = B .all-born; snaps = B .snaps; legal = B .legal;
         before = λ i j p. omega (arith, B .before i j p);
         before-same = λ i j p e. absurd (omega (arith, B .before i j p));
         after = λ i j p q. at i j p q (same? (2 * s .memory .item i .effect-at j) k);

@@ -1,7 +1,7 @@
 -- Replaying the list: what it shows of every item, and that each answer is the one of Definition 1.
 use mathlib.Core.Path.{_≡_, refl, ap, ap₂, sym, _∙_, subst}
 use mathlib.Core.Logic.{_≢_, inl, inr}
-use mathlib.Core.Bool.{cond}
+use mathlib.Core.Bool.{Bool, true, cond}
 use mathlib.Core.List.{List, _∷_}
 use Prim.Native.Nat.{ℕ, zero, suc, _+_, _*_, _≤_, _<_, min}
 use native.Mathlib.Omega.{arith}
@@ -12,7 +12,7 @@ use Rattle.history.specs.Machine.{Item, Operation, register, v-read, v-c
 use Rattle.history.specs.Facts.{Sees, Sum, empty, skip, plus}
 use Rattle.history.specs.RightAnswers.{RightAnswer, CasSees, differs, same, SnapshotRead, TotalRead, change-answer}
 use Rattle.history.specs.Places.{asked-for, ChangeRight, ObserverRight, PlaceRight, Invariant, not-observing}
-use Rattle.history.specs.Definition1.{Act, Object, apply, object, total-to, total-of, Answered, Right}
+use Rattle.history.specs.Definition1.{Act, Object, apply, object, total-to, total-of, Answered, Born, Right}
 use Rattle.history.specs.MachineOrder.{In}
 use Rattle.history.specs.OrderList.{keyed, answer-at, shown-value, acts-of, Keyed, Listed, Shot, Shown, effects-rise, born-seen, shown-is, find-act,
     find-take}
@@ -128,19 +128,19 @@ module _ (s : Catalogue) (invariant : Invariant s) where
           (invariant .moved h g .operation) (ap (answer-at (s .fate (s .memory .camera .mover h) .operation)) (invariant .moved h g .at))
 
     -- an item of which version j is seen is registered, in the object then and at a snapshot
-    item-there : (i j : ℕ) → Sees (s .memory .item i) τ j → i < object (acts-of s invariant l) .items
+    item-there : (i j : ℕ) → Sees (s .memory .item i) τ j → Born i (object (acts-of s invariant l))
     item-there i j a = at (split i (B .items))
       where
-        at : Split i (B .items) → i < object (acts-of s invariant l) .items
-        at (Split.less p) = omega (arith, B .items-is)
+        at : Split i (B .items) → Born i (object (acts-of s invariant l))
+        at (Split.less p) = B .all-born i p
         at (Split.more p) =
             absurd (omega (arith, B .high i p, B .after i 0 (omega (arith, B .high i p)) (omega (arith, a .have)), born-seen s invariant i τ j a, q))
 
-    item-then : (h i j : ℕ) (y : Object) → Shot s invariant h y → Sees (s .memory .item i) (s .memory .camera .left-at h) j → i < y .items
+    item-then : (h i j : ℕ) (y : Object) → Shot s invariant h y → Sees (s .memory .item i) (s .memory .camera .left-at h) j → Born i y
     item-then h i j y S a = at (split i (y .items))
       where
-        at : Split i (y .items) → i < y .items
-        at (Split.less p) = p
+        at : Split i (y .items) → Born i y
+        at (Split.less p) = S .all-born i p
         at (Split.more p) = absurd (omega (arith, S .high i p (omega (arith, a .have)), born-seen s invariant i (s .memory .camera .left-at h) j a))
 
     pub observer-right : (operation : Operation) (c : List ℕ) (j x : ℕ) → n < τ → RightAnswer (s .memory) operation n c τ j x →
@@ -186,6 +186,16 @@ module _ (s : Catalogue) (invariant : Invariant s) where
     observer-size (read-snapshot i h) c j x a i' = refl
     observer-size (total p h) c j x a i' = refl
 
+    pub observer-born : (operation : Operation) (c : List ℕ) (j x : ℕ) → RightAnswer (s .memory) operation n c τ j x → (i : ℕ) →
+        apply operation (object (acts-of s invariant l)) .born i ≡ object (acts-of s invariant l) .born i
+    unfolding apply
+    observer-born (register i v z) c j x a i' = absurd a
+    observer-born (v-read i) c j x a i' = refl
+    observer-born (v-cas i a b) c j x y i' = refl
+    observer-born take-snapshot c j x a i' = refl
+    observer-born (read-snapshot i h) c j x a i' = refl
+    observer-born (total p h) c j x a i' = refl
+
     pub observer-same : (operation : Operation) (c : List ℕ) (j x : ℕ) → RightAnswer (s .memory) operation n c τ j x → (i : ℕ) →
         apply operation (object (acts-of s invariant l)) .value i ≡ object (acts-of s invariant l) .value i
     unfolding apply put
@@ -221,6 +231,7 @@ module _ (s : Catalogue) (invariant : Invariant s) where
           items = B .items; low = B .low; high = B .high;
           items-is = observer-one (s .fate n .operation) (s .fate n .lines) j x (O .seen) ∙ B .items-is;
           sizes = λ i p. observer-size (s .fate n .operation) (s .fate n .lines) j x (O .seen) i ∙ B .sizes i p;
+          all-born = λ i p. observer-born (s .fate n .operation) (s .fate n .lines) j x (O .seen) i ∙ B .all-born i p;
           snaps = λ h p t. snap h p t;
           legal = (subst (λ (y : ℕ). Right (s .fate n .operation) y (acts-of s invariant l)) (sym answer)
               (observer-right (s .fate n .operation) (s .fate n .lines) j x (O .since) (O .seen)), B .legal) }
@@ -236,7 +247,7 @@ module _ (s : Catalogue) (invariant : Invariant s) where
               low = λ i p. omega (arith, B .before i 0 (B .low i (omega (arith, B .items-is))));
               have = λ i p. omega (arith, B .low i (omega (arith, B .items-is)), B .shown-valid i);
               high = λ i p r. omega (arith, B .after i 0 (omega (arith, B .high i (omega (arith, B .items-is)))) r);
-              sizes = λ i p. B .sizes i (omega (arith, B .items-is)) }
+              sizes = λ i p. B .sizes i (omega (arith, B .items-is)); all-born = λ i p. B .all-born i (omega (arith, B .items-is)) }
         snap : (h : ℕ) (p : List Act) → Answered take-snapshot h p (acts-of s invariant (n ∷ l)) → Shot s invariant h (object p)
         snap h p (inl (w, u)) =
             let Z : (x < s .memory .camera .counter) × (s .memory .camera .left-at x ≡ τ) =
@@ -308,14 +319,20 @@ module _ (s : Catalogue) (invariant : Invariant s) where
         (λ f. B .sizes i' (omega (arith, next-item c)))
     change-size (suc j) c i' p = B .sizes i' p
 
+    pub change-born : (j : ℕ) → B .shown i ≡ j → (i' : ℕ) → i' < more-items j →
+        apply (asked-for (s .memory .item i) i j) (object (acts-of s invariant l)) .born i' ≡ true
+    unfolding more-items apply put
+    change-born zero c i' p = by-eq (λ (z : Bool). z ≡ true) i' i (λ f. refl) (λ f. B .all-born i' (omega (arith, next-item c)))
+    change-born (suc j) c i' p = B .all-born i' p
+
     pub change-legal : (j : ℕ) → B .shown i ≡ j → Right (asked-for (s .memory .item i) i j) (change-answer (asked-for (s .memory .item i) i j))
         (acts-of s invariant l)
     change-legal zero c = (refl, B .items-is ∙ sym (next-item (cur-is ∙ sym cur-is ∙ c)))
     change-legal (suc j) c = (there (split i (B .items)), by-eq (λ (z : ℕ). 1 ≡ z) (object (acts-of s invariant l) .value i) (s .memory .item i .value j)
         (λ f. refl) (λ f. absurd (f (B .value i ∙ ap (shown-value (s .memory .item i)) c))))
       where
-        there : Split i (B .items) → i < object (acts-of s invariant l) .items
-        there (Split.less p) = omega (arith, B .items-is)
+        there : Split i (B .items) → Born i (object (acts-of s invariant l))
+        there (Split.less p) = B .all-born i p
         there (Split.more p) = absurd (omega (arith, B .high i p))
 
     pub change-value : (j : ℕ) → B .shown i ≡ j → (i' : ℕ) →
@@ -365,6 +382,7 @@ module _ (s : Catalogue) (invariant : Invariant s) where
           high = change-high j cur-is;
           sizes = λ i' p. ap (λ (operation : Operation). apply operation (object (acts-of s invariant l)) .size i') operation ∙ change-size j cur-is
               i' p;
+          all-born = λ i' p. ap (λ (operation : Operation). apply operation (object (acts-of s invariant l)) .born i') operation ∙ change-born j cur-is i' p;
           snaps = λ h p t. snap h p t;
           legal = (subst (λ (y : ℕ). Right (s .fate n .operation) y (acts-of s invariant l)) (sym (ap (answer-at (s .fate n .operation)) e))
               (subst (λ (o : Operation). Right o (change-answer o) (acts-of s invariant l)) (sym operation) (change-legal j cur-is)), B .legal) }

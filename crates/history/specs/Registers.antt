@@ -15,16 +15,16 @@ use Rattle.history.specs.Notes as Notes
 use Rattle.history.specs.NoteParts.{note-tag}
 use Rattle.history.specs.Statements.{items-now}
 use Rattle.history.specs.Effects.{effects}
-use Rattle.history.specs.Machine.{Limits, Found, no-node, node, node-to-take, none-left, found, Catalogue, Move, register-refusals, registered,
-    registering, move, reply, after-calls}
+use Rattle.history.specs.Machine.{Event, Limits, Found, no-node, node, node-to-take, none-left, found, Catalogue, Move, register-refusals, registered,
+    registering, move, reply, after-events}
 use Rattle.history.specs.Places.{Invariant}
 use Rattle.history.specs.Run.{Passed, run-right}
 use Rattle.history.specs.NodeCount.{Tally, tally, limits-kept}
 use Rattle.history.specs.MachineNotes.{machine-note, machine-notes}
 use Rattle.history.specs.LedgerRight.{Agrees, agrees}
 use Rattle.history.specs.EffectsRun.{Effected, effected}
-use Rattle.history.specs.BornItems.{known-items}
-use Rattle.history.specs.Accepts.{unless-passed, passed-unless, above, registered-known}
+use Rattle.history.specs.BornItems.{known-items, born-in-turn}
+use Rattle.history.specs.Accepts.{unless-passed, passed-unless, above, registered-born}
 use Rattle.history.specs.NodesInUse.{Counted, not-found, none-left-exactly, in-use}
 
 -- the items that the effects tell of are those registered
@@ -32,7 +32,8 @@ items-told : (s : Catalogue) → Invariant s → (run : List Note) → Agrees s 
 items-told s invariant run A E = at (split (items-now run (effects run)) (s .memory .items))
   where
     at : Split (items-now run (effects run)) (s .memory .items) → items-now run (effects run) ≡ s .memory .items
-    at (Split.less p) = absurd (omega (arith, registered-known s invariant run A E (items-now run (effects run)) p))
+    at (Split.less p) = absurd (omega (arith, born-in-turn s invariant run E (items-now run (effects run)) (length run) .0
+      (registered-born s invariant run A E (items-now run (effects run)) p)))
     at (Split.more p) = omega (arith, known-items s invariant run E (length run) .0)
 
 module _ (s : Catalogue) (Y : Tally s) (run : List Note) (C : Counted (s .memory) (nodes-in-use run)) where
@@ -71,11 +72,11 @@ module _ (s : Catalogue) (Y : Tally s) (run : List Note) (C : Counted (s .memory
       goes = record { answer = accepted (s .memory .items); leaves = registered s v z (found (node-to-take (s .memory))) }
 
 -- in every run of the machine
-module _ (limits : Limits) (cs : List Call) where
+module _ (limits : Limits) (es : List Event) where
   abbrev s : Catalogue
-  s = after-calls limits cs
+  s = after-events limits es
   abbrev run : List Note
-  run = machine-notes limits cs
+  run = machine-notes limits es
   abbrev known : ℕ
   known = items-now run (effects run)
 
@@ -83,7 +84,7 @@ module _ (limits : Limits) (cs : List Call) where
       ((v < limits .projects) × (known < limits .items) × (nodes-in-use run < limits .nodes))
   registers v z =
       subst (λ (k : ℕ). (machine-note s (Call.register v z) ≡ Notes.registered k v z) ↔ ((v < limits .projects) × (k < limits .items)
-          × (nodes-in-use run < limits .nodes))) (sym (items-told s (run-right limits cs) run (agrees limits cs) (effected limits cs)))
+          × (nodes-in-use run < limits .nodes))) (sym (items-told s (run-right limits es) run (agrees limits es) (effected limits es)))
         (subst (λ (y : Limits). (machine-note s (Call.register v z) ≡ Notes.registered (s .memory .items) v z) ↔ ((v < y .projects)
-            × (s .memory .items < y .items) × (nodes-in-use run < y .nodes))) (limits-kept limits cs)
-          (register-note s (tally limits cs) run (in-use limits cs) v z))
+            × (s .memory .items < y .items) × (nodes-in-use run < y .nodes))) (limits-kept limits es)
+          (register-note s (tally limits es) run (in-use limits es) v z))

@@ -11,7 +11,7 @@ use Rattle.history.specs.Tools.{put, put-all, put-both, put-same, put-ot
 use Rattle.history.specs.Machine.{Item, Memory, Limits, Operation, register, v-read, v-cas, take-snapshot, read-snapshot, total, Phase,
     total-at, found, node-to-take, one-taken, nothing, memory-after, place-after, newborn, Place, unplaced, changes, Entry, Worker, idle, busy,
     Catalogue, tick, Move, unless, step-refusals, worker-refusals, register-refusals, stepped, stepping, first-phase, start-refusals, begun,
-    starting, registered, registering, move, call, fresh, after-calls}
+    starting, registered, registering, move, call, Event, called, reader-starts, reader-steps, reader, reader-refusals, event-move, happens, fresh, after-events}
 use Rattle.history.specs.Facts.{empty, ItemFacts, MemoryFacts, LaterItem, Later}
 use Rattle.history.specs.Changes.{effect-later, camera-stays, item-same, item-stays, newborn-facts, newborn-later}
 use Rattle.history.specs.PhaseFacts.{Totals, PhaseFacts, phase-later}
@@ -237,6 +237,15 @@ call-keeps s (Call.step w) invariant =
     unless-all (λ (s : Catalogue). Invariant (tick s)) s (step-refusals s w) (stepped s w (s .worker w)) (unchanged s invariant)
         (λ x. step-keeps s w (s .worker w) invariant (invariant .workers w))
 
+pub event-keeps : (s : Catalogue) (e : Event) → Invariant s → Invariant (happens s e)
+unfolding happens event-move
+event-keeps s (called c) invariant = unfold call in (call-keeps s c invariant)
+event-keeps s (reader-starts i) invariant =
+    unless-all (λ (s : Catalogue). Invariant (tick s)) s (reader-refusals s i) (record { answer = accepted 0; leaves = begun s (reader s) (v-read i) })
+        (unchanged s invariant)
+      (λ x. begun-keeps s invariant (reader s) (v-read i) (x .1))
+event-keeps s reader-steps invariant = step-keeps s (reader s) (s .worker (reader s)) invariant (invariant .workers (reader s))
+
 fresh-right : (limits : Limits) → Invariant (fresh limits)
 unfolding fresh
 fresh-right limits =
@@ -257,7 +266,7 @@ fresh-right limits =
       workers = λ w. tt; moved = λ h p. absurd (omega arith) }
 
 -- after any calls on a fresh catalogue, the invariant holds
-pub run-right : (limits : Limits) (cs : List Call) → Invariant (after-calls limits cs)
-unfolding after-calls
+pub run-right : (limits : Limits) (es : List Event) → Invariant (after-events limits es)
+unfolding after-events
 run-right limits [] = fresh-right limits
-run-right limits (x ∷ cs) = call-keeps (after-calls limits cs) x (run-right limits cs)
+run-right limits (x ∷ es) = event-keeps (after-events limits es) x (run-right limits es)

@@ -1,6 +1,6 @@
 -- What is promised of a run: the instants of document 01, the one order of demand 2, the exact reads of demand 3, lines and steps, never damage.
 -- Letters: o, q and c are operations, named by the times of their starts; i is an item, v a value, h a handle; τ is an instant, and t, f, p, r and s
--- are times of calls: f of a fetch of the head, p of a publication at 46, r of a line 21 and s of the line 22 after it.
+-- are times, the indices of notes: f of a fetch of the head, p of a publication at 46, r of a line 21 and s of the line 22 after it.
 use mathlib.Core.Path.{_≡_}
 use mathlib.Core.Logic.{_≢_, _⊎_, _↔_}
 use mathlib.Core.Bool.{Bool, true, false, cond, not}
@@ -10,7 +10,8 @@ use lib.ListN.{length, getD}
 use Rattle.definitions.specs.Calls.{Call, outcome}
 use Rattle.cells.specs.WellFormed.{Well-formed}
 pub use Rattle.history.specs.Definition1.{In, Once}
-use Rattle.history.specs.Definition1.{Operation, register, v-read, v-cas, take-snapshot, read-snapshot, total, total-of, Follows, Legal}
+use Rattle.history.specs.Definition1.{Operation, register, v-read, v-cas, take-snapshot, read-snapshot, total, Object, total-of, Born,
+    Follows, Legal}
 use Rattle.history.specs.Notes.{Deed, fetches, finds, publishes, stamps, moves, nothing, Ending, goes-on, answers, ends-with, Note, registered,
     started, stepped, start-of, note, Run-call, damaged-code, Fate, ledger, nodes-in-use, read-lines, WholeLines, RefusedLines, most-steps, Effect,
     birth, change, snapshot, time, object-at, changes-between}
@@ -150,7 +151,7 @@ module _ (run : List Note) where
     pub record ExactRead (o i h x : ℕ) : Type 0 where
       pub left : ℕ
       pub taken : In (snapshot left h) effects
-      pub born : i < object-at left effects .items
+      pub born : Born i (object-at left effects)
       pub answer : x ≡ object-at left effects .value i
       pub f : ℕ
       pub fetched : Fetched o i 32 f
@@ -162,12 +163,12 @@ module _ (run : List Note) where
       pub steps : length (fate-of o .lines) ≡ k + cond tbd 5 3
 
     -- The lines of a total, item by item in their order, each with its own line 32, executed at f, after that of the item before, at g: one line
-    -- for an item born after the counter left the handle, else those of a read.
+    -- for an item not yet born when the counter left the handle, else those of a read.
     pub data TotalLines (left o : ℕ) : (items : ℕ) → List ℕ → (f : ℕ) → Type 0 where
       no-item : TotalLines left o 0 [] 0
-      born-later : {i g : ℕ} {l : List ℕ} (f t v s : ℕ) → Fetched o i 32 f → g < f → In (birth t i v s) effects → left < t →
+      not-born : {i g : ℕ} {l : List ℕ} (f : ℕ) → Fetched o i 32 f → g < f → (Born i (object-at left effects) → ⊥) →
         TotalLines left o i l g → TotalLines left o (suc i) (32 ∷ l) f
-      read : {i g : ℕ} {l : List ℕ} (f : ℕ) (tbd : Bool) → Fetched o i 32 f → g < f → i < object-at left effects .items →
+      read : {i g : ℕ} {l : List ℕ} (f : ℕ) (tbd : Bool) → Fetched o i 32 f → g < f → Born i (object-at left effects) →
         TotalLines left o i l g → TotalLines left o (suc i) (read-lines tbd (changes-between i left f effects) ++ l) f
 
     -- A total's answer x is the sum over all items born when the counter left h whose project then was q; its steps are those of its items,
@@ -177,19 +178,24 @@ module _ (run : List Note) where
       pub taken : In (snapshot left h) effects
       pub answer : x ≡ total-of q (object-at left effects)
       pub lines : (l : List ℕ) × (last : ℕ) × TotalLines left o (object-at o effects .items) l last × (fate-of o .lines ≡ 0 ∷ l)
+      -- an item that it passed over, if it was registered before its start, was registered after the counter left h
+      pub later : (i : ℕ) → Born i (object-at o effects) → (Born i (object-at left effects) → ⊥) →
+        (t : ℕ) × (v : ℕ) × (s : ℕ) × In (birth t i v s) effects × (left < t) × (t ≤ o)
 
     -- ---- starts
 
-    -- How many items are registered; and what a start asks for, where there are q projects: its item is registered, its values are projects, the
-    -- counter has left its handle, and the item of a readSnapshot was registered before that. A register is no start.
+    -- Definition 1's object now, and how many items there are; and what a start asks for, where there are q projects: its item is registered, its values
+    -- are projects, the counter has left its handle, and the item of a readSnapshot was registered before that. A register is no start.
+    abbrev pub object-now : Object
+    object-now = object-at (length run) effects
     abbrev pub items-now : ℕ
-    items-now = object-at (length run) effects .items
+    items-now = object-now .items
     abbrev pub Asked : (q : ℕ) → Operation → Type 0
     Asked q (register i v s) = ⊥
-    Asked q (v-read i) = i < items-now
-    Asked q (v-cas i old new) = (i < items-now) × (old < q) × (new < q)
+    Asked q (v-read i) = Born i object-now
+    Asked q (v-cas i old new) = Born i object-now × (old < q) × (new < q)
     Asked q take-snapshot = Unit {0}
-    Asked q (read-snapshot i h) = (left : ℕ) × In (snapshot left h) effects × (i < object-at left effects .items)
+    Asked q (read-snapshot i h) = (left : ℕ) × In (snapshot left h) effects × Born i (object-at left effects)
     Asked q (total r h) = (r < q) × (left : ℕ) × In (snapshot left h) effects
 
     -- ---- all that is promised of the notes of a run
@@ -204,6 +210,8 @@ module _ (run : List Note) where
       -- the counter leaves each handle once, in their order
       pub leaves-once : (h t t' : ℕ) → In (snapshot t h) effects → In (snapshot t' h) effects → t ≡ t'
       pub in-turn : (g h t : ℕ) → In (snapshot t h) effects → g < h → (u : ℕ) × In (snapshot u g) effects × (u < t)
+      -- items are born in the order of their numbers
+      pub born-in-turn : (i τ : ℕ) → Born i (object-at τ effects) ↔ (i < object-at τ effects .items)
       -- demand 3: reads are exact
       pub reads : (o i h x : ℕ) → fate-of o .operation ≡ read-snapshot i h → Finished o x → ExactRead o i h x
       -- so are totals, which never take more than 5,121 steps
@@ -219,29 +227,29 @@ module _ (run : List Note) where
       pub progress : (o : ℕ) → fate-of o .ending ≡ goes-on →
         (ledger run .current (fate-of o .worker) ≡ o) × (length (fate-of o .lines) < most-steps (fate-of o .operation))
 
--- ---- and of its words now, where told are its notes and the catalogue was made with p workers, m items, n nodes, q projects and a counter up to c
+-- ---- and of its words now, where run has its notes and the catalogue was made with p workers, m items, n nodes, q projects and a counter up to c
 
-pub record Demands (p m n q c : ℕ) (now : List ℕ) (told : List Note) : Type 0 where
+pub record Demands (p m n q c : ℕ) (now : List ℕ) (run : List Note) : Type 0 where
   -- no call answers 2, and the words are well-formed
   pub never-2 : (x : Call) → Run-call now x → outcome now x .answer .code ≢ damaged-code
   pub formed : Well-formed now
   -- demands 2 and 3
   pub effects : List Effect
-  pub promises : Promises told effects
+  pub promises : Promises run effects
   -- a start is accepted exactly when its worker is there and free, and what it asks for is there
-  pub accepted : (w : ℕ) (op : Operation) → (note now (start-of w op) ≡ started w op) ↔ ((w < p) × Free told w × Asked told effects q op)
+  pub accepted : (w : ℕ) (op : Operation) → (note now (start-of w op) ≡ started w op) ↔ ((w < p) × Free run w × Asked run effects q op)
   -- a register is accepted exactly when its value is a project and there is room for an item and a node
-  pub registers : (v s : ℕ) → Run-call now (Call.register v s) → (note now (Call.register v s) ≡ registered (items-now told effects) v s)
-    ↔ ((v < q) × (items-now told effects < m) × (nodes-in-use told < n))
+  pub registers : (v s : ℕ) → Run-call now (Call.register v s) → (note now (Call.register v s) ≡ registered (items-now run effects) v s)
+    ↔ ((v < q) × (items-now run effects < m) × (nodes-in-use run < n))
   -- a step at line 45 ends with number 11 exactly when all nodes are in use
-  pub no-node : (w : ℕ) (d : Deed) (e : Ending) → note now (Call.step w) ≡ stepped w 45 d e → (e ≡ ends-with 11) ↔ (nodes-in-use told ≡ n)
+  pub no-node : (w : ℕ) (d : Deed) (e : Ending) → note now (Call.step w) ≡ stepped w 45 d e → (e ≡ ends-with 11) ↔ (nodes-in-use run ≡ n)
   -- the counter leaves no handle from c on, and a step at line 5 ends with number 12 exactly when it has left the last, c - 1
   pub handles : (h t : ℕ) → In (snapshot t h) effects → h < c
   pub full : (w : ℕ) (d : Deed) (e : Ending) → note now (Call.step w) ≡ stepped w 5 d e →
     (e ≡ ends-with 12) ↔ ((t : ℕ) × In (snapshot t (pred c)) effects)
   -- an operation that goes on is never refused a step
-  pub never-stuck : (o : ℕ) → fate-of told o .ending ≡ goes-on →
-    (line : ℕ) × (d : Deed) × (e : Ending) × (note now (Call.step (fate-of told o .worker)) ≡ stepped (fate-of told o .worker) line d e)
+  pub never-stuck : (o : ℕ) → fate-of run o .ending ≡ goes-on →
+    (line : ℕ) × (d : Deed) × (e : Ending) × (note now (Call.step (fate-of run o .worker)) ≡ stepped (fate-of run o .worker) line d e)
   -- the answer of a step carries the number of lines that its operation has executed, that line included
   pub every-step : (w line : ℕ) (d : Deed) (e : Ending) → note now (Call.step w) ≡ stepped w line d e →
-    outcome now (Call.step w) .answer .steps ≡ length (line ∷ fate-of told (ledger told .current w) .lines)
+    outcome now (Call.step w) .answer .steps ≡ length (line ∷ fate-of run (ledger run .current w) .lines)

@@ -7,11 +7,10 @@ use Prim.Native.Nat.{ℕ, zero, suc, _+_, _*_, _≤_, _<_}
 use native.Mathlib.Omega.{arith}
 use lib.Dec.{eqb}
 use lib.ListN.{length, replicate, getD}
-use Rattle.definitions.specs.Calls.{Call}
 use Rattle.history.specs.Tools.{Split, split}
-use Rattle.history.specs.Machine.{Memory, Limits, Operation, v-read, Then, then-39, then-43, then-48, then-52, then-34, then-total-34, Phase,
+use Rattle.history.specs.Machine.{Event, Memory, Limits, Operation, v-read, Then, then-39, then-43, then-48, then-52, then-34, then-total-34, Phase,
     line-37, line-39, line-41, line-43, line-45, line-46, line-48, line-50, line-51, line-52, line-5, line-6, line-32, line-34, total-32, total-34,
-    closing, line-20, line-21, line-22, Worker, busy, Catalogue, after-calls}
+    closing, line-20, line-21, line-22, Worker, busy, Catalogue, after-events}
 use Rattle.history.specs.Facts.{Read, Sum, empty, skip, plus, helped, read-lines, MemoryFacts}
 use Rattle.history.specs.PhaseFacts.{Tried, Totals, Passing, ThenFacts, Helped, PhaseFacts}
 use Rattle.history.specs.RightAnswers.{CasLines, to-43, to-48, to-52, WholeLines, RefusedLines, no-node-left, counter-full, TotalRead}
@@ -194,8 +193,8 @@ module _ (s : Catalogue) (invariant : Invariant s) (Y : Tally s) (few-items : s 
       some-fit (y .k) (y .registered))
 
 -- in every run of a catalogue with at most 256 items and 4,096 nodes
-pub steps-bound : (limits : Limits) → limits .items ≤ 256 → limits .nodes ≤ 4096 → (cs : List Call) →
-  (w o : ℕ) (l : List ℕ) (ph : Phase) → after-calls limits cs .worker w ≡ busy o l ph → length l ≤ 5120
-steps-bound limits a b cs =
-    busy-bound (after-calls limits cs) (run-right limits cs) (tally limits cs) (subst (λ (y : Limits). y .items ≤ 256) (sym (limits-kept limits cs)) a)
-        (subst (λ (y : Limits). y .nodes ≤ 4096) (sym (limits-kept limits cs)) b)
+pub steps-bound : (limits : Limits) → limits .items ≤ 256 → limits .nodes ≤ 4096 → (es : List Event) →
+  (w o : ℕ) (l : List ℕ) (ph : Phase) → after-events limits es .worker w ≡ busy o l ph → length l ≤ 5120
+steps-bound limits a b es =
+    busy-bound (after-events limits es) (run-right limits es) (tally limits es) (subst (λ (y : Limits). y .items ≤ 256) (sym (limits-kept limits es)) a)
+        (subst (λ (y : Limits). y .nodes ≤ 4096) (sym (limits-kept limits es)) b)

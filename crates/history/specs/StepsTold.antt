@@ -11,8 +11,8 @@ use Rattle.history.specs.Tools.{by-test}
 use Rattle.history.specs.Notes.{Deed, Ending, Note, step-note, ledger}
 use Rattle.history.specs.Notes as Notes
 use Rattle.history.specs.NoteParts.{note-tag, note-line}
-use Rattle.history.specs.Machine.{Limits, line-number, Comes, goes-on, ends-with, answers-change, answers, line, Worker, idle, busy,
-    Catalogue, Move, refused, no-worker, is-idle, step-answer, stepped, stepping, move, reply, after-calls}
+use Rattle.history.specs.Machine.{Event, Limits, line-number, Comes, goes-on, ends-with, answers-change, answers, line, Worker, idle, busy,
+    Catalogue, Move, refused, no-worker, is-idle, step-answer, stepped, stepping, move, reply, after-events}
 use Rattle.history.specs.MachineNotes.{phase-deed, worker-line, worker-deed, machine-note, machine-notes}
 use Rattle.history.specs.LedgerRight.{InLedger, Agrees, agrees}
 
@@ -56,9 +56,9 @@ module _ (s : Catalogue) (run : List Note) (A : Agrees s run) (w : ℕ) where
                 (step-line w (line-number ph) (phase-deed (s .memory) ph) (stepped s w (busy o l ph) .answer) k d e x)
                   (sym (ap (λ (o : ℕ). ledger run .fate o .lines) (i .0) ∙ i .1)))
 
-pub steps-told : (limits : Limits) (cs : List Call) (w k : ℕ) (d : Deed) (e : Ending) →
-    machine-note (after-calls limits cs) (Call.step w) ≡ Notes.stepped w k d e →
-  reply (after-calls limits cs) (Call.step w) .steps ≡ length
-      (k ∷ ledger (machine-notes limits cs) .fate (ledger (machine-notes limits cs) .current w) .lines)
+pub steps-told : (limits : Limits) (es : List Event) (w k : ℕ) (d : Deed) (e : Ending) →
+    machine-note (after-events limits es) (Call.step w) ≡ Notes.stepped w k d e →
+  reply (after-events limits es) (Call.step w) .steps ≡ length
+      (k ∷ ledger (machine-notes limits es) .fate (ledger (machine-notes limits es) .current w) .lines)
 unfolding machine-note reply move
-steps-told limits cs w k d e x = told-steps (after-calls limits cs) (machine-notes limits cs) (agrees limits cs) w k d e x
+steps-told limits es w k d e x = told-steps (after-events limits es) (machine-notes limits es) (agrees limits es) w k d e x

@@ -7,7 +7,6 @@ use Prim.Native.Nat.{ℕ, suc, _+_, _≤_, _<_}
 use native.Mathlib.Omega.{arith}
 use lib.Dec.{eqb}
 use lib.ListN.{length}
-use Rattle.definitions.specs.Calls.{Call}
 use Rattle.history.specs.Tools.{put-all, by-eq, by-lt, by-le}
 use Rattle.history.specs.Notes.{Note, ledger}
 use Rattle.history.specs.Notes as Notes
@@ -17,7 +16,7 @@ use Rattle.history.specs.Machine.{Entry, ended, turned-away, Memory, Lim
     register, v-read, v-cas, take-snapshot, read-snapshot, total, Then, then-39, then-43, then-48, then-52, then-34, then-total-34, Phase, line-37,
     line-39, line-41, line-43, line-45, line-46, line-48, line-50, line-51, line-52, line-5, line-6, line-32, line-34, total-32, total-34, closing,
     line-20, line-21, line-22, after, total-at, helped-item, line-number, Comes, goes-on, ends-with, answers-change, answers, Next, only, line,
-    memory-after, Worker, idle, busy, Catalogue, settle, affect, tick, first-phase, begun, registered, call, fresh, after-calls}
+    memory-after, Worker, idle, busy, Catalogue, settle, affect, tick, first-phase, begun, registered, fresh, Event, happens, after-events}
 use Rattle.history.specs.Machine as Machine
 use Rattle.history.specs.Facts.{MemoryFacts, Later}
 use Rattle.history.specs.Changes.{Allowed, effect-later}
@@ -26,7 +25,7 @@ use Rattle.history.specs.RightAnswers.{phase-operation, has-published, L
 use Rattle.history.specs.EachLine.{every-line, the-read, walks-on, passes-on, helped-onto}
 use Rattle.history.specs.Places.{InOperation, WorkerRight, Invariant}
 use Rattle.history.specs.Run.{run-right, registered-later}
-use Rattle.history.specs.MachineNotes.{machine-note, machine-notes, phase-deed, ending, after-step, call-cases}
+use Rattle.history.specs.MachineNotes.{event-note, machine-notes, phase-deed, ending, after-step, event-cases}
 use Rattle.history.specs.LedgerRight.{InLedger, Agrees, agrees}
 use Rattle.history.specs.Trace.{executed-more, executed-past}
 use Rattle.history.specs.TraceRun.{done-past, ended-past}
@@ -191,9 +190,9 @@ module _ (s : Catalogue) (invariant : Invariant s) (run : List Note) (agreed : A
       end-total-later L (invariant .kept .memory) run x q (suc (s .fate q .ended-at)) (s .fate q .lines) (s .fate q .operation)
           (done-past s invariant q d) (ended-past s invariant q d) (totals .ends q d)
 
-  after-refusal : TotalRun (tick s) (Notes.refused ∷ run)
+  after-quiet : (x : Notes.Look) → TotalRun (tick s) (Notes.quiet x ∷ run)
   unfolding tick
-  after-refusal = record { workers = λ w. keep Notes.refused (s .memory) unmoved w (s .worker w) refl; ends = old-end Notes.refused (s .memory) unmoved }
+  after-quiet x = record { workers = λ w. keep (Notes.quiet x) (s .memory) unmoved w (s .worker w) refl; ends = old-end (Notes.quiet x) (s .memory) unmoved }
 
   after-register : (v z y : ℕ) → TotalRun (tick (registered s v z y)) (Notes.registered (s .memory .items) v z ∷ run)
   unfolding tick registered
@@ -287,16 +286,16 @@ module _ (s : Catalogue) (invariant : Invariant s) (run : List Note) (agreed : A
           (line-total (s .now) o w l (s .memory) (invariant .kept .memory) (K .begun) run (sym (agreed .now)) cur ph (K .facts)
             (subst (λ (y : Worker). WorkerTotal (s .memory) run (s .now) y) is (totals .workers w)))
 
-call-total : (s : Catalogue) (run : List Note) → Invariant s → Agrees s run → TotalRun s run → (c : Call) → TotalRun (call s c) (machine-note s c ∷ run)
-unfolding call
-call-total s run invariant agreed totals =
-    call-cases s invariant (λ (x : Note) (s' : Catalogue). TotalRun (tick s') (x ∷ run))
-      (after-refusal s invariant run agreed totals)
+event-total : (s : Catalogue) (run : List Note) → Invariant s → Agrees s run → TotalRun s run → (e : Event) → TotalRun (happens s e) (event-note s e ∷ run)
+unfolding happens
+event-total s run invariant agreed totals =
+    event-cases s invariant (suc (s .memory .limits .workers)) (omega arith) (λ (x : Note) (s' : Catalogue). TotalRun (tick s') (x ∷ run))
+      (λ x q. after-quiet s invariant run agreed totals x)
       (λ v z p. after-register s invariant run agreed totals v z (found (node-to-take (s .memory))))
-      (λ w op p. after-start s invariant run agreed totals w op)
-      (λ w o l ph b e. step-total s invariant run agreed totals w o l ph e)
+      (λ w op b f p. after-start s invariant run agreed totals w op)
+      (λ w o l ph b e. step-total s invariant run agreed totals w o l ph e) (omega arith)
 
-pub total-run : (limits : Limits) (cs : List Call) → TotalRun (after-calls limits cs) (machine-notes limits cs)
-unfolding after-calls machine-notes fresh
+pub total-run : (limits : Limits) (es : List Event) → TotalRun (after-events limits es) (machine-notes limits es)
+unfolding after-events machine-notes fresh
 total-run limits [] = record { workers = λ w. tt; ends = λ o d. absurd (true≢false (sym d)) }
-total-run limits (c ∷ cs) = call-total (after-calls limits cs) (machine-notes limits cs) (run-right limits cs) (agrees limits cs) (total-run limits cs) c
+total-run limits (e ∷ es) = event-total (after-events limits es) (machine-notes limits es) (run-right limits es) (agrees limits es) (total-run limits es) e

@@ -7,7 +7,6 @@ use Prim.Native.Nat.{ℕ, suc, _≤_, _<_}
 use native.Mathlib.Omega.{arith}
 use lib.Dec.{eqb}
 use lib.ListN.{length}
-use Rattle.definitions.specs.Calls.{Call}
 use Rattle.history.specs.Tools.{put, put-all, put-same, put-other, by-eq}
 use Rattle.history.specs.Notes.{Deed, Note, ledger}
 use Rattle.history.specs.Notes as Notes
@@ -15,14 +14,14 @@ use Rattle.history.specs.Statements.{Executed}
 use Rattle.history.specs.Machine.{Entry, ended, turned-away, Item, Memory, Limits, found, node-to-take, Operation, register, v-read, v-cas,
     take-snapshot, read-snapshot, total, Phase, total-at, line-number, Effect, nothing, counts, publishes, stamps, takes-node, gives-back, Comes,
     goes-on, ends-with, answers-change, answers, line, memory-after, place-after, Place, unplaced, awaits, changes, observes, Worker, idle, busy,
-    Catalogue, settle, affect, tick, first-phase, begun, registered, call, fresh, after-calls}
+    Catalogue, settle, affect, tick, first-phase, begun, registered, fresh, Event, happens, after-events}
 use Rattle.history.specs.Facts.{Later}
 use Rattle.history.specs.Changes.{Allowed, effect-later}
 use Rattle.history.specs.RightAnswers.{phase-operation, has-published, LineRight}
 use Rattle.history.specs.EachLine.{every-line}
 use Rattle.history.specs.Places.{ChangeRight, ObserverRight, PlaceRight, InOperation, WorkerRight, Invariant}
 use Rattle.history.specs.Run.{run-right, registered-later}
-use Rattle.history.specs.MachineNotes.{machine-note, machine-notes, phase-deed, ending, after-step, call-cases}
+use Rattle.history.specs.MachineNotes.{event-note, machine-notes, phase-deed, ending, after-step, event-cases}
 use Rattle.history.specs.LedgerRight.{InLedger, Agrees, agrees}
 use Rattle.history.specs.Trace.{PhaseTraced, EndTraced, Stamping, MemoryTraced, WorkerTraced, Traced, Foreign, executed-past,
     latest-more, phase-traced-later, end-later}
@@ -93,17 +92,17 @@ module _ (s : Catalogue) (invariant : Invariant s) (run : List Note) (A : Agrees
 
   -- ---- refused, registered, started
 
-  after-refusal : Traced (tick s) (Notes.refused ∷ run)
+  after-quiet : (x : Notes.Look) → Traced (tick s) (Notes.quiet x ∷ run)
   unfolding tick
-  after-refusal =
+  after-quiet x =
       record {
-        memory = traced-more stay (invariant .kept .memory) run now (T .memory) Notes.refused (λ i j a b. absurd (omega arith))
+        memory = traced-more stay (invariant .kept .memory) run now (T .memory) (Notes.quiet x) (λ i j a b. absurd (omega arith))
             (λ i v a b. absurd (omega arith)) (λ i j a b. absurd (omega arith)) (λ i a b. absurd (omega arith)) (λ h a b. absurd (omega arith));
-        workers = others Notes.refused (λ o line d t e. at o line d t e) (s .memory) stay;
-        ends = λ q d. old-end Notes.refused (s .memory) stay q d }
+        workers = others (Notes.quiet x) (λ o line d t e. at o line d t e) (s .memory) stay;
+        ends = λ q d. old-end (Notes.quiet x) (s .memory) stay q d }
     where
-      at : (o line : ℕ) (d : Deed) (t : ℕ) → Executed (Notes.refused ∷ run) o line d t → Executed run o line d t
-      at o line d t e = pick (executed-inv run Notes.refused e)
+      at : (o line : ℕ) (d : Deed) (t : ℕ) → Executed ((Notes.quiet x) ∷ run) o line d t → Executed run o line d t
+      at o line d t e = pick (executed-inv run (Notes.quiet x) e)
         where
           pick : Executed run o line d t ⊎ ((_≡_ {A = ℕ} 0 3) × (_≡_ {A = ℕ} 0 line) × (Notes.nothing ≡ d) × (ledger run .current 0 ≡ o)
               × (length run ≡ t)) → Executed run o line d t
@@ -305,20 +304,20 @@ module _ (s : Catalogue) (invariant : Invariant s) (run : List Note) (A : Agrees
         (line-traced (s .now) o w l (s .memory) (invariant .kept .memory) (K .begun) run now cur ph (K .facts) mine)
         (line-20-found (s .now) (s .memory) ph)
 
-call-traced : (s : Catalogue) (run : List Note) → Invariant s → Agrees s run → Traced s run → (c : Call) → Traced (call s c) (machine-note s c ∷ run)
-unfolding call
-call-traced s run invariant A tr =
-    call-cases s invariant (λ (x : Note) (s' : Catalogue). Traced (tick s') (x ∷ run))
-      (after-refusal s invariant run A tr)
+event-traced : (s : Catalogue) (run : List Note) → Invariant s → Agrees s run → Traced s run → (e : Event) → Traced (happens s e) (event-note s e ∷ run)
+unfolding happens
+event-traced s run invariant A tr =
+    event-cases s invariant (suc (s .memory .limits .workers)) (omega arith) (λ (x : Note) (s' : Catalogue). Traced (tick s') (x ∷ run))
+      (λ x q. after-quiet s invariant run A tr x)
       (λ v z p. after-register s invariant run A tr v z (found (node-to-take (s .memory))))
-      (λ w op p. after-start s invariant run A tr w op)
-      (λ w o l ph b e. step-traced s invariant run A tr w o l ph e)
+      (λ w op b f p. after-start s invariant run A tr w op)
+      (λ w o l ph b e. step-traced s invariant run A tr w o l ph e) (omega arith)
 
-pub traced : (limits : Limits) (cs : List Call) → Traced (after-calls limits cs) (machine-notes limits cs)
-unfolding after-calls machine-notes fresh
+pub traced : (limits : Limits) (es : List Event) → Traced (after-events limits es) (machine-notes limits es)
+unfolding after-events machine-notes fresh
 traced limits [] =
     record {
       memory = record { published = λ i j p. absurd (omega arith); publishes-only = λ o i v p e. absurd (e .noted);
           stamped = λ i j p. absurd (omega arith); stamps-only = λ o i s e. absurd (e .noted); left = λ h p. absurd (omega arith) };
       workers = λ w. tt; ends = λ o d. absurd (true≢false (sym d)) }
-traced limits (c ∷ cs) = call-traced (after-calls limits cs) (machine-notes limits cs) (run-right limits cs) (agrees limits cs) (traced limits cs) c
+traced limits (e ∷ es) = event-traced (after-events limits es) (machine-notes limits es) (run-right limits es) (agrees limits es) (traced limits es) e

@@ -16,7 +16,7 @@ use Rattle.definitions.specs.Calls.{registering, starting-v-read, starting-v-ca
 use Rattle.history.specs.Definition1.{Operation, put, v-read, v-cas, take-snapshot, read-snapshot, apply, total-to, total-of}
 use Rattle.history.specs.Tools.{Same, same?}
 use Rattle.history.specs.Notes.{Deed, fetches, finds, publishes, stamps, moves, nothing, goes-on, answers, Note, registered, started, stepped, Fate,
-    note, words-after, notes, ledger, entered, Effect, birth, change, snapshot, object-at, changes-between}
+    note, told, words-after, notes, ledger, entered, Effect, birth, change, snapshot, object-at, changes-between}
 use Rattle.history.specs.Statements.{In, Falling, fate-of, Executed, Stamped, HeadInstant, Instant, TellsOf}
 use Rattle.history.specs.Effects.{insert, last-published, effects}
 use Rattle.history.specs.Immediately.{other-line}
@@ -26,8 +26,8 @@ use Rattle.order.specs.WorkedRuns.{told-of, Plain, promised, order-of-th
 use Rattle.order.specs.WorkedTimes.{only-one, executed-at, listed, changed-at, snapshot-time, change-time}
 
 -- the run, note by note, the newest first: between `stepped 1 21` and `stepped 1 22` stand both `moves`
-abbrev told : List Note
-told =
+abbrev run : List Note
+run =
     stepped 0 48 nothing (answers 1) ∷ stepped 0 20 (finds true) goes-on
     ∷ stepped 2 34 nothing (answers 2) ∷ stepped 2 20 (finds true) goes-on ∷ stepped 2 32 (fetches 0 true) goes-on ∷ started 2 (read-snapshot 0 0)
     ∷ stepped 1 39 nothing (answers 2) ∷ stepped 1 22 (stamps 0) goes-on
@@ -37,8 +37,8 @@ told =
     ∷ stepped 0 46 (publishes 0 2) goes-on ∷ stepped 0 45 nothing goes-on ∷ stepped 0 43 nothing goes-on ∷ stepped 0 20 (finds true) goes-on
     ∷ stepped 0 41 (fetches 0 true) goes-on ∷ started 0 (v-cas 0 1 2) ∷ registered 0 1 100 ∷ []
 
-helped-notes : told-of helped ≡ told
-unfolding helped notes note words-after outcome making registering starting-v-read starting-v-cas starting-take-snapshot starting-read-snapshot
+helped-notes : told-of helped ≡ run
+unfolding helped notes told note words-after outcome making registering starting-v-read starting-v-cas starting-take-snapshot starting-read-snapshot
     stepping header-damaged-at arguments-damaged kept-damaged running-damaged table row-of lines line-of-phase fetch-head line-20 line-21 line-22
     line-39 line-43 line-45 line-46 line-48 line-5 line-6 line-34
 helped-notes = refl
@@ -144,7 +144,7 @@ helped-helper-time =
         (subst (λ (l : List Effect). In (snapshot 16 1) l) (sym helped-effects) (inl refl))
     stamped : Stamped (told-of helped) 0 17
     stamped = subst (λ (l : List Note). Stamped l 0 17) (sym helped-notes)
-        (7, record { past = drop 8 told; w = 1; e = goes-on; noted = inr (inr (inr (inr (inr (inr (inr (inl (refl, refl))))))));
+        (7, record { past = drop 8 run; w = 1; e = goes-on; noted = inr (inr (inr (inr (inr (inr (inr (inl (refl, refl))))))));
           its = refl; at = refl })
     fetched : {d : Deed} {f : ℕ} → Executed (told-of helped) 7 37 d f → f ≡ 8
     fetched {d} {f} X = only-one (subst (λ (l : List ℕ). In f l) (ap (executed-at 7 37) helped-notes ∙ refl) (listed (told-of helped) X))

@@ -1,6 +1,3 @@
-pub mod Kept
-pub mod Accepted
-pub mod Numbered
 pub mod Theorems
 pub mod LastMake
 pub mod WorkedRuns

@@ -10,7 +10,7 @@ use Rattle.definitions.specs.Damage.{header-damaged-at, arguments-damaged, kept
 use Rattle.definitions.specs.Lines.{fetch-head, line-20, line-21, line-22, line-43, line-45, line-46, line-48, line-50, line-52, lines, line-of-phase}
 use Rattle.definitions.specs.Calls.{registering, starting-v-cas, stepping, making, outcome}
 use Rattle.history.specs.Definition1.{put, v-cas}
-use Rattle.history.specs.Notes.{fetches, finds, publishes, stamps, nothing, goes-on, answers, Note, registered, started, stepped, note,
+use Rattle.history.specs.Notes.{fetches, finds, publishes, stamps, nothing, goes-on, answers, Note, registered, started, stepped, note, told,
     words-after, notes, ledger, entered, Effect, birth, change, snapshot, time}
 use Rattle.history.specs.Statements.{In, fate-of, Executed, LossInstant, CasInstant, TellsOf}
 use Rattle.history.specs.Effects.{insert, last-published, effects}
@@ -33,15 +33,15 @@ before-21 =
     ∷ stepped 1 45 nothing goes-on ∷ stepped 1 43 nothing goes-on ∷ stepped 1 20 (finds true) goes-on ∷ stepped 1 41 (fetches 0 true) goes-on
     ∷ started 1 (v-cas 0 1 3) ∷ started 0 (v-cas 0 1 2) ∷ registered 0 1 100 ∷ []
 
-abbrev told : List Note
-told =
+abbrev run : List Note
+run =
     stepped 1 52 nothing (answers 0) ∷ stepped 1 20 (finds true) goes-on ∷ stepped 1 51 nothing goes-on ∷ stepped 1 50 nothing goes-on
     ∷ stepped 1 46 nothing goes-on
     ∷ stepped 2 48 nothing (answers 1) ∷ stepped 2 22 (stamps 0) goes-on ∷ stepped 2 21 nothing goes-on ∷ stepped 2 20 (finds false) goes-on
     ∷ stepped 2 46 (publishes 0 0) goes-on ∷ before-21
 
-lost-notes : told-of lost ≡ told
-unfolding lost notes note words-after outcome making registering starting-v-cas stepping header-damaged-at arguments-damaged kept-damaged
+lost-notes : told-of lost ≡ run
+unfolding lost notes told note words-after outcome making registering starting-v-cas stepping header-damaged-at arguments-damaged kept-damaged
     running-damaged table row-of lines line-of-phase fetch-head line-20 line-21 line-22 line-43 line-45 line-46 line-48 line-50 line-52
 lost-notes = refl
 

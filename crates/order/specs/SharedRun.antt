@@ -9,7 +9,7 @@ use Rattle.definitions.specs.Damage.{header-damaged-at, arguments-damaged, kept
 use Rattle.definitions.specs.Lines.{fetch-head, line-20, line-39, line-5, line-6, lines, line-of-phase}
 use Rattle.definitions.specs.Calls.{registering, starting-v-read, starting-take-snapshot, stepping, making, outcome}
 use Rattle.history.specs.Definition1.{put, v-read, take-snapshot}
-use Rattle.history.specs.Notes.{fetches, finds, moves, nothing, goes-on, answers, Note, registered, started, stepped, note, words-after,
+use Rattle.history.specs.Notes.{fetches, finds, moves, nothing, goes-on, answers, Note, registered, started, stepped, note, told, words-after,
     notes, ledger, entered, Effect, birth, snapshot}
 use Rattle.history.specs.Statements.{In, fate-of}
 use Rattle.history.specs.Effects.{insert, last-published, effects}
@@ -19,14 +19,14 @@ use Rattle.order.specs.WorkedRuns.{told-of, Plain, order-of-theorem, sam
 use Rattle.order.specs.WorkedTimes.{snapshot-time}
 
 -- the run, note by note, the newest first: worker 1 moves the counter, and worker 0, which fails at line 6, answers the same
-abbrev told : List Note
-told =
+abbrev run : List Note
+run =
     stepped 0 6 nothing (answers 0) ∷ stepped 2 39 nothing (answers 1) ∷ stepped 2 20 (finds true) goes-on ∷ stepped 2 37 (fetches 0 true) goes-on
     ∷ started 2 (v-read 0) ∷ stepped 1 6 (moves 0) (answers 0) ∷ stepped 1 5 nothing goes-on ∷ stepped 0 5 nothing goes-on
     ∷ started 1 take-snapshot ∷ started 0 take-snapshot ∷ registered 0 1 100 ∷ []
 
-shared-notes : told-of shared ≡ told
-unfolding shared notes note words-after outcome making registering starting-v-read starting-take-snapshot stepping header-damaged-at
+shared-notes : told-of shared ≡ run
+unfolding shared notes told note words-after outcome making registering starting-v-read starting-take-snapshot stepping header-damaged-at
     arguments-damaged kept-damaged running-damaged table row-of lines line-of-phase fetch-head line-20 line-39 line-5 line-6
 shared-notes = refl
 

@@ -10,14 +10,13 @@ use lib.ListN.{length, replicate}
 use Rattle.definitions.specs.Calls.{Call, making, outcome}
 use Rattle.cells.specs.Made.{is-make}
 use Rattle.history.specs.Tools.{and-parts}
-use Rattle.history.specs.Notes.{goes-on, answers, ends-with, Note, refused, registered, started, stepped, words-after, notes, start, Run-call, Run,
+use Rattle.history.specs.Notes.{goes-on, answers, ends-with, Note, quiet, registered, started, stepped, words-after, notes, start, Run-call, Run,
     ledger}
 use Rattle.history.specs.Statements.{OneOrder, Promises}
 use Rattle.history.specs.Effects.{effects}
 use Rattle.history.specs.Examples.{made, order-of}
 use Rattle.reached.specs.Run.{size-of, sized-call}
-use Rattle.order.specs.Kept.{order-kept}
-use Rattle.order.specs.Theorems.{demands}
+use Rattle.order.specs.Theorems.{demands, run-demands, run-order}
 
 -- a catalogue of three workers, one item, four nodes, four projects and counters to 16, on 80 lent words
 abbrev lent : List ℕ
@@ -60,20 +59,20 @@ is-run ws (x ∷ cs) t = (is-run ws cs (and-parts (plain x) (all-plain cs) t .1)
 
 -- what the theorem gives for such a run: here alone it is cited
 pub promised : (cs : List Call) → Plain cs → Promises (told-of cs) (effects (told-of cs))
-unfolding demands
-promised cs t = demands lent 3 1 4 4 16 accepted (made cs []) (is-run (start lent 3 1 4 4 16) (made cs []) t) .promises
+unfolding demands run-demands
+promised cs t = run-demands lent 3 1 4 4 16 accepted (made cs []) (is-run (start lent 3 1 4 4 16) (made cs []) t) .promises
 
 abbrev pub order-of-theorem : (cs : List Call) → Plain cs → OneOrder (told-of cs)
 order-of-theorem cs t = promised cs t .one-order
 
 pub same-order : (cs : List Call) (t : Plain cs) → order-of-theorem cs t .order ≡ order-of cs
-unfolding promised demands
-same-order cs t = order-kept lent 3 1 4 4 16 accepted (made cs []) (is-run (start lent 3 1 4 4 16) (made cs []) t)
+unfolding promised demands run-demands
+same-order cs t = run-order lent 3 1 4 4 16 accepted (made cs []) (is-run (start lent 3 1 4 4 16) (made cs []) t)
 
 -- the operations that answered, in the order of their answers
 unfoldable pub answered : List Note → List ℕ
 answered [] = []
-answered (refused ∷ past) = answered past
+answered (quiet x ∷ past) = answered past
 answered (registered i v s ∷ past) = length past ∷ answered past
 answered (started w op ∷ past) = answered past
 answered (stepped w line d goes-on ∷ past) = answered past

@@ -10,7 +10,7 @@ use lib.ListN.{length, getD}
 use Rattle.definitions.specs.Calls.{Call}
 use Rattle.history.specs.Definition1.{Operation, v-cas, take-snapshot, Follows}
 use Rattle.history.specs.Tools.{by-test, and-both}
-use Rattle.history.specs.Notes.{Deed, Ending, answers, Note, refused, registered, started, stepped, Fate, ledger, Effect, birth, change, snapshot}
+use Rattle.history.specs.Notes.{Deed, Ending, answers, Note, quiet, registered, started, stepped, Fate, ledger, Effect, birth, change, snapshot}
 use Rattle.history.specs.Statements.{In, fate-of, Executed, ChangeInstant, TakeInstant, CasInstant, Instant}
 use Rattle.history.specs.Effects.{effects}
 use Rattle.order.specs.WorkedRuns.{told-of, Plain, promised, order-of-theorem}
@@ -23,7 +23,7 @@ only-one (inr n) = absurd n
 
 unfoldable pub executed-at : (o line : ℕ) → List Note → List ℕ
 executed-at o line [] = []
-executed-at o line (refused ∷ past) = executed-at o line past
+executed-at o line (quiet x ∷ past) = executed-at o line past
 executed-at o line (registered i v s ∷ past) = executed-at o line past
 executed-at o line (started w op ∷ past) = executed-at o line past
 executed-at o line (stepped w k d e ∷ past) =
@@ -31,7 +31,7 @@ executed-at o line (stepped w k d e ∷ past) =
 
 one-more : (o line t : ℕ) (x : Note) (past : List Note) → In t (executed-at o line past) → In t (executed-at o line (x ∷ past))
 unfolding executed-at
-one-more o line t refused past n = n
+one-more o line t (quiet x) past n = n
 one-more o line t (registered i v s) past n = n
 one-more o line t (started w op) past n = n
 one-more o line t (stepped w k d e) past n =

@@ -24,7 +24,7 @@ use Rattle.reached.specs.Homes.{Waits-at, Holding, Worker-holding}
 use Rattle.reached.specs.Whole.{Few-steps, Catalogue-image}
 use Rattle.reached.specs.Step.{is-busy, has, steps-well}
 use Rattle.reached.specs.Start.{first-worker, worker-sound, item-is-sound}
-use Rattle.reached.specs.Run.{few, Words-image, header-is-sound}
+use Rattle.reached.specs.Run.{Words-image, header-is-sound}
 
 -- The same walk, from its front.
 link-front : (f : Cells) (first k : ℕ) → link-after f first (suc k) ≡ link-after f (next-link f first) k

@@ -1,4 +1,4 @@
--- What is not in use is zero. From words on which make was just accepted, after every list of calls in which no make is accepted:
+-- What is not in use is zero. In every history:
 --   each worker below P whose phase is 0 has a record of sixteen zeros;
 --   the header's words 9 to 15, words 13 to 15 of each worker and word 3 of each item are zero;
 --   each item's record from number items on, and each node's from number used on, is zero.
@@ -14,7 +14,7 @@ use native.Mathlib.Omega.{arith}
 use lib.Dec.{eqb, ltb}
 use lib.ListN.{length, getD}
 use borrow.Author.Tests.{ltb-true, ltb-false, lt-ltb, le-ltb, eq-eqb}
-use Rattle.definitions.specs.Cells.{Cell, cell, Cells, items, used, phase, place, items-start, nodes-start, cells-of}
+use Rattle.definitions.specs.Cells.{node-words, Cell, cell, Cells, items, used, phase, place, items-start, nodes-start, cells-of}
 use Rattle.definitions.specs.Answers.{unless, _⇒_}
 use Rattle.definitions.specs.Damage.{header-damaged}
 use Rattle.definitions.specs.Calls.{Call, Result, outcome, leaving, busy}
@@ -25,8 +25,7 @@ use Rattle.cells.specs.Made.{comes-to, is-make, on-words, made, made-sized, mad
 use Rattle.cells.specs.Rows.{by-test}
 use Rattle.cells.specs.Spares.{Header-in, call-fine}
 use Rattle.cells.specs.Untouched.{header-in}
-use Rattle.history.specs.Notes.{words-after}
-use Rattle.reached.specs.Run.{Run, Run-call, start}
+use Rattle.history.specs.Notes.{Note, start, Run-call, History}
 use Rattle.reached.specs.Unused.{in-use-now, Rest-zero, never-both, less-in-use, call-keeps-rest}
 
 -- ---- the statement
@@ -43,7 +42,7 @@ pub record Unused-zero (p m n : ℕ) (ws : List ℕ) : Type 0 where
   pub worker-unused : (w : ℕ) → w < p → (k : ℕ) → 13 ≤ k → k < 16 → Zero-at ws (16 + 16 * w + k)
   pub item-unused : (i : ℕ) → i < m → Zero-at ws (16 + 16 * p + 4 * i + 3)
   pub later-items : (i : ℕ) → getD ws 6 0 ≤ i → i < m → (k : ℕ) → k < 4 → Zero-at ws (16 + 16 * p + 4 * i + k)
-  pub later-nodes : (y : ℕ) → getD ws 7 0 ≤ y → y < n → (k : ℕ) → k < 3 → Zero-at ws (16 + 16 * p + 4 * m + (3 * y + k))
+  pub later-nodes : (y : ℕ) → getD ws 7 0 ≤ y → y < n → (k : ℕ) → k < node-words → Zero-at ws (16 + 16 * p + 4 * m + (node-words * y + k))
 
 -- ---- the words
 
@@ -129,11 +128,11 @@ module _ (p m n : ℕ) (ws : List ℕ) (T : Tidied p m n ws) where
       below : ltb (32 + k) 36 ≡ true
       below = lt-ltb (32 + k) 36 (omega arith)
 
-  node-zero : (y : ℕ) → getD ws 7 0 ≤ y → y < n → (k : ℕ) → k < 3 → Zero-at ws (16 + 16 * p + 4 * m + (3 * y + k))
-  node-zero y t l k b = zero-word (cell (36 + k) y) (rw (past-16, past-32, past-36, lt-ltb (36 + k) 39 (omega arith)) l)
+  node-zero : (y : ℕ) → getD ws 7 0 ≤ y → y < n → (k : ℕ) → k < node-words → Zero-at ws (16 + 16 * p + 4 * m + (node-words * y + k))
+  node-zero y t l k b = zero-word (cell (36 + k) y) (rw (past-16, past-32, past-36, lt-ltb (36 + k) (36 + node-words) (omega arith)) l)
       (rw (le-ltb (36 + k) 9 (omega arith), past-16, le-ltb (36 + k) 29 (omega arith), past-32, le-ltb (36 + k) 35 (omega arith), past-36)
         (le-ltb _ _ t))
-      (16 + 16 * p + 4 * m + (3 * y + k)) (rw (past-16, past-32, past-36) (omega arith))
+      (16 + 16 * p + 4 * m + (node-words * y + k)) (rw (past-16, past-32, past-36) (omega arith))
     where
       past-16 : ltb (36 + k) 16 ≡ false
       past-16 = le-ltb (36 + k) 16 (omega arith)
@@ -165,17 +164,16 @@ module _ (ws : List ℕ) (p m n q c : ℕ) (accepted : outcome ws (Call.make p m
     sized = made-sized ws p m n q c;
     rest-zero = λ d s e. made-fresh ws p m n q c .rest-zero d s (past-sizes (cells-of (made ws p m n q c)) d e) })
 
-  tidied : (cs : List Call) → Run (start ws p m n q c) cs → Tidied p m n (words-after (start ws p m n q c) cs)
-  unfolding words-after
-  tidied [] r = start-tidied
-  tidied (x ∷ cs) r = run-call p m n (words-after (start ws p m n q c) cs) (tidied cs (r .0)) x (r .1)
+-- In every history what is not in use is zero,
+module _ {p m n q c : ℕ} where
+  tidied : {now : List ℕ} {run : List Note} → History p m n q c now run → Tidied p m n now
+  tidied (History.made ws e) = start-tidied ws p m n q c e
+  tidied (History.called {now} h x k) = run-call p m n now (tidied h) x k
 
-  -- In every run what is not in use is zero,
-  pub unused-zero : (cs : List Call) → Run (start ws p m n q c) cs → Unused-zero p m n (words-after (start ws p m n q c) cs)
-  unused-zero cs r = unused-words p m n (words-after (start ws p m n q c) cs) (tidied cs r)
+  pub unused-zero : {now : List ℕ} {run : List Note} → History p m n q c now run → Unused-zero p m n now
+  unused-zero {now} h = unused-words p m n now (tidied h)
 
   -- and so an idle worker's record is all zero.
-  pub idle-record-zero : (cs : List Call) → Run (start ws p m n q c) cs → (w : ℕ) → w < p
-      → getD (words-after (start ws p m n q c) cs) (16 + 16 * w) 0 ≡ 0
-      → (k : ℕ) → k < 16 → Zero-at (words-after (start ws p m n q c) cs) (16 + 16 * w + k)
-  idle-record-zero cs r = unused-zero cs r .idle-worker
+  pub idle-record-zero : {now : List ℕ} {run : List Note} → History p m n q c now run → (w : ℕ) → w < p → getD now (16 + 16 * w) 0 ≡ 0 →
+      (k : ℕ) → k < 16 → Zero-at now (16 + 16 * w + k)
+  idle-record-zero h = unused-zero h .idle-worker

@@ -18,6 +18,6 @@ pub mod Run
 pub mod Never
 pub mod Noted
 pub mod Formed
-pub mod Reached
+pub mod Histories
 pub mod Unused
 pub mod Idle

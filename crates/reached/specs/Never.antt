@@ -1,18 +1,14 @@
--- Never damage: in a run no call answers 2.
+-- Never damage: no call on the machine answers 2.
 use Prim.Native.Nat.{ℕ, suc}
 use mathlib.Core.Bool.{Bool, true, false, cond}
 use mathlib.Core.List.{List, [], _∷_}
 use mathlib.Core.Logic.{_≢_}
-use mathlib.Core.Path.{_≡_, ap, sym, _∙_}
 use native.Mathlib.Omega.{arith}
-use Rattle.definitions.specs.declared.Answer.{Answer}
 use Rattle.definitions.specs.Answers.{Refusal, accepted}
-use Rattle.definitions.specs.Calls.{Call, outcome}
-use Rattle.history.specs.Notes.{words-after}
-pub use Rattle.history.specs.Notes.{damaged-code}
+use Rattle.definitions.specs.Calls.{Call}
+use Rattle.history.specs.Notes.{damaged-code}
 use Rattle.history.specs.Tools.{by-eq, by-lt, by-le}
 use Rattle.history.specs.Machine.{Memory, Found, no-node, node, node-to-take, found, Operation, register, v-read, v-cas, take-snapshot, read-snapshot, total, Phase, line-37, line-39, line-41, line-43, line-45, line-46, line-48, line-50, line-51, line-52, line-5, line-6, line-32, line-34, total-32, total-34, closing, line-20, line-21, line-22, line-number, Comes, goes-on, ends-with, answers-change, answers, Next, on-45, line, Worker, idle, busy, Catalogue, Move, unless, refused, step-answer, stepped, stepping, starting, registering, move, reply, start-refusals, worker-refusals, step-refusals, register-refusals, begun, registered}
-use Rattle.reached.specs.Run.{Run-call, Run, start, machine, answers-agree}
 
 abbrev No-two : List Refusal → Type 0
 No-two [] = Unit {0}
@@ -104,8 +100,3 @@ reply-fine s (Call.total w q h) = starting-fine s w (total q h)
 reply-fine s (Call.step w) = unfold stepping in
     unless-fine s (step-refusals s w) (stepped s w (s .worker w)) ((λ e. absurd (omega arith)), ((λ e. absurd (omega arith)), tt))
         (stepped-fine s w (s .worker w))
-
-module _ (ws : List ℕ) (p m n q c : ℕ) (made : outcome ws (Call.make p m n q c) .answer .code ≡ 2) where
-  pub never-damaged : (cs : List Call) → Run (start ws p m n q c) cs → (x : Call) → Run-call (words-after (start ws p m n q c) cs) x
-      → outcome (words-after (start ws p m n q c) cs) x .answer .code ≢ damaged-code
-  never-damaged cs r x t e = reply-fine (machine ws p m n q c made cs) x (sym (ap (λ (a : Answer). a .code) (answers-agree ws p m n q c made cs r x t)) ∙ e)

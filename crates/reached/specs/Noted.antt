@@ -1,22 +1,22 @@
 -- One who sees the words notes of every call what the machine's notes say: the line that the worker executed, and its deed.
 use Prim.Native.Nat.{ℕ, zero, suc, pred, _+_, _<_, _≤_}
 use mathlib.Core.Bool.{Bool, true, false, cond, not}
-use mathlib.Core.List.{List, [], _∷_}
+use mathlib.Core.List.{List}
 use mathlib.Core.Path.{_≡_, refl, ap, ap₂, sym, _∙_, subst}
 use native.Mathlib.Omega.{arith}
 use lib.Dec.{eqb, ltb}
 use lib.ListN.{length}
 use borrow.Author.Tests.{lt-ltb, le-ltb, lt-leb, le-leb, eq-eqb, ne-eqb}
 use Rattle.definitions.specs.declared.Answer.{Answer}
-use Rattle.definitions.specs.Cells.{Cells, cells-of, workers, counter, phase, item, node, new-node, seen, head, value, stamp}
+use Rattle.definitions.specs.Cells.{Cells, cells-of, counter, phase, item, node, new-node, seen, head, value, stamp}
 use Rattle.definitions.specs.Answers.{refusal}
 use Rattle.definitions.specs.Phases.{row-of, table}
 use Rattle.definitions.specs.Damage.{TBD}
 use Rattle.definitions.specs.Calls.{Call, outcome}
 use Rattle.history.specs.Tools.{Split, split}
-use Rattle.history.specs.Notes.{Deed, fetches, finds, moves, Note, step-note, deed-at, note, notes, words-after}
+use Rattle.history.specs.Notes.{Deed, fetches, finds, moves, step-note, deed-at, note, Run-call}
 use Rattle.history.specs.Notes as Notes
-use Rattle.history.specs.MachineNotes.{fetch, phase-deed, worker-line, worker-deed, machine-note, machine-notes}
+use Rattle.history.specs.MachineNotes.{fetch, phase-deed, worker-line, worker-deed, machine-note}
 use Rattle.history.specs.Machine.{Memory, Then, then-39, then-43, then-48, then-52, then-34, then-total-34, Phase, line-37, line-39, line-41, line-43, line-45, line-46, line-48, line-50, line-51, line-52, line-5, line-6, line-32, line-34, total-32, total-34, closing, line-20, line-21, line-22, helped-item, line-number, Worker, idle, busy, Catalogue, Move, refused, stepping, move, reply}
 use Rattle.reached.specs.Parts.{shared-of, local-of}
 use Rattle.reached.specs.Grows.{Known, then-item}
@@ -25,7 +25,7 @@ use Rattle.reached.specs.Ready.{Standing, line-same}
 use Rattle.reached.specs.LineImage.{head-test}
 use Rattle.reached.specs.Whole.{Few-steps, Catalogue-image}
 use Rattle.reached.specs.Step.{standing, is-busy, knows, has}
-use Rattle.reached.specs.Run.{few, Run-call, Run, Words-image, every-call, start, machine, limits-of, reached-image}
+use Rattle.reached.specs.Run.{Words-image, every-call}
 
 module _ (f : Cells) (m : Memory) (own : ℕ → Owner) (w : ℕ) (X : Standing f m own w) where
   -- a version's stamp is TBD exactly where it is not valid
@@ -189,7 +189,7 @@ step-same f s Z F w = at (split w (s .memory .limits .workers)) (s .worker w) re
         B : Busy-image (s .memory .item) (local-of f w) (length ls) ph
         B = is-busy f s Z w l o ls ph e (F w o ls ph e)
 
-note-same : (ws : List ℕ) (s : Catalogue) → Words-image ws s → Few-steps (s .worker) → (x : Call) → Run-call ws x → note ws x ≡ machine-note s x
+pub note-same : (ws : List ℕ) (s : Catalogue) → Words-image ws s → Few-steps (s .worker) → (x : Call) → Run-call ws x → note ws x ≡ machine-note s x
 note-same ws s U F x t = at x (every-call ws s U F x t .answer-is)
   where
     at : (x : Call) → outcome ws x .answer ≡ reply s x → note ws x ≡ machine-note s x
@@ -201,14 +201,3 @@ note-same ws s U F x t = at x (every-call ws s U F x t .answer-is)
     at (Call.read-snapshot w i h) e = unfold note machine-note in rw e
     at (Call.total w q h) e = unfold note machine-note in rw e
     at (Call.step w) e = unfold note machine-note in rw e (step-same (cells-of ws) s (U .image) F w)
-
-module _ (ws : List ℕ) (p m n q c : ℕ) (made : outcome ws (Call.make p m n q c) .answer .code ≡ 2) where
-  -- The notes of a run on the words are the notes of the machine's run.
-  pub notes-agree : (cs : List Call) → Run (start ws p m n q c) cs → notes (start ws p m n q c) cs ≡ machine-notes (limits-of p m n q c) cs
-  unfolding notes machine-notes
-  notes-agree [] r = refl
-  notes-agree (x ∷ cs) r =
-      ap₂ (λ (a : Note) (l : List Note). a ∷ l)
-        (note-same (words-after (start ws p m n q c) cs) (machine ws p m n q c made cs) (reached-image ws p m n q c made cs (r .0))
-            (few ws p m n q c made cs) x (r .1))
-            (notes-agree cs (r .0))

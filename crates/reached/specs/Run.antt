@@ -1,7 +1,8 @@
--- Every run of the words, from an accepted make, is a run of the machine: the same answers, and words that are the image of its state.
+-- One call on words that are the image of the machine's state: the machine's answer, and words that are the image of its state after it. And what an
+-- accepted make leaves is the image of the fresh machine.
 use Prim.Native.Nat.{ℕ, _<_, _≤_}
 use mathlib.Core.Bool.{false, true≢false}
-use mathlib.Core.List.{List, [], _∷_}
+use mathlib.Core.List.{List}
 use mathlib.Core.Logic.{inl}
 use mathlib.Core.Path.{_≡_, refl, ap, sym, _∙_, subst}
 use native.Mathlib.Omega.{arith}
@@ -18,10 +19,8 @@ use Rattle.cells.specs.Update.{after, after-size}
 use Rattle.cells.specs.Words.{Sized, Left, leaves}
 use Rattle.cells.specs.Made.{comes-to, is-make, outcome-comes, Fresh, made, made-sized, made-fresh, Accepted, make-accepts, make-refuses}
 use Rattle.cells.specs.Spares.{none-at, first-false, second-false}
-use Rattle.history.specs.Notes.{words-after}
-pub use Rattle.history.specs.Notes.{Typed, Run-call, Run, start}
-use Rattle.history.specs.Machine.{Limits, Catalogue, fresh, tick, move, call, reply, after-calls}
-use Rattle.history.specs.StepCount.{steps-bound}
+use Rattle.history.specs.Notes.{Typed, Run-call, start}
+use Rattle.history.specs.Machine.{Limits, Catalogue, fresh, tick, move, call, reply}
 use Rattle.reached.specs.Parts.{shared-of}
 use Rattle.reached.specs.Sound.{Header-fits, header-sound}
 use Rattle.reached.specs.Image.{unused}
@@ -197,11 +196,6 @@ fresh-image p m n q c f fit F = record {
     zero-at d h l = F .rest-zero d h l
 
 module _ (ws : List ℕ) (p m n q c : ℕ) (accepted : outcome ws (Call.make p m n q c) .answer .code ≡ 2) where
-  abbrev begun : List ℕ
-  begun = start ws p m n q c
-  abbrev pub machine : List Call → Catalogue
-  machine cs = after-calls (limits-of p m n q c) cs
-
   accepted-make : Accepted ws p m n q c
   accepted-make = make-accepts ws p m n q c accepted
 
@@ -209,30 +203,8 @@ module _ (ws : List ℕ) (p m n q c : ℕ) (accepted : outcome ws (Call.make p m
   pub in-limits : Limits-fit (limits-of p m n q c)
   in-limits = limits-fit p m n q c (accepted-make .in-range)
 
-  start-image : Words-image begun (fresh (limits-of p m n q c))
+  pub start-image : Words-image (start ws p m n q c) (fresh (limits-of p m n q c))
   unfolding fresh
   start-image = subst (λ (x : List ℕ). Words-image x (fresh (limits-of p m n q c))) (sym (accepted-make .leaves)) (record {
     sized = made-sized ws p m n q c;
     image = fresh-image p m n q c (cells-of (made ws p m n q c)) in-limits (made-fresh ws p m n q c) })
-
-  -- no operation of the machine has taken too many steps
-  pub few : (cs : List Call) → Few-steps (machine cs .worker)
-  few cs = steps-bound (limits-of p m n q c) (in-limits .items-in .1) (in-limits .nodes-in .1) cs
-
-  -- After any run the words are the image of the machine's state after the same calls,
-  pub reached-image : (cs : List Call) → Run begun cs → Words-image (words-after begun cs) (machine cs)
-  unfolding words-after after-calls
-  reached-image [] r = start-image
-  reached-image (x ∷ cs) r = every-call (words-after begun cs) (machine cs) (reached-image cs (r .0)) (few cs) x (r .1) .words-are
-
-  -- every answer is the machine's,
-  pub answers-agree : (cs : List Call) → Run begun cs → (x : Call) → Run-call (words-after begun cs) x
-      → outcome (words-after begun cs) x .answer ≡ reply (machine cs) x
-  answers-agree cs r x t = every-call (words-after begun cs) (machine cs) (reached-image cs r) (few cs) x t .answer-is
-
-  -- and the lent words stay as many.
-  pub as-many-words : (cs : List Call) → Run begun cs → length (words-after begun cs) ≡ length begun
-  unfolding words-after
-  as-many-words [] r = refl
-  as-many-words (x ∷ cs) r =
-      every-call (words-after begun cs) (machine cs) (reached-image cs (r .0)) (few cs) x (r .1) .as-many ∙ as-many-words cs (r .0)
