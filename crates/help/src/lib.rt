@@ -6,9 +6,14 @@ use tables::fields::{
 };
 use tables::nodes;
 ghost use mathlib.Core.Path.{_≡_};
-ghost use mathlib.Core.Bool.{not, _&&_};
+ghost use mathlib.Core.Bool.{cond, not, _&&_};
+ghost use mathlib.Core.List.{[], _∷_};
+ghost use Prim.Native.Nat.{_+_, _*_, _<_};
 ghost use lib.Dec.{ltb, eqb};
+ghost use lib.ListN.{length, getD};
+ghost use Rattle.definitions.specs.Cells.{node-words};
 ghost use Rattle.definitions.specs.Lines.{fetch, help-20, help-21, help-22};
+ghost use Rattle.tables.specs.Part.{stored, _gets_};
 ghost use Rattle.endings.specs.Stepped.{Steps, Ready, In-item, Has-node};
 
 // A stamp that is neither a counter value nor still to be decided.
@@ -62,7 +67,20 @@ pub fn line_21(words: &mut [u32], items_at: usize, nodes_at: usize, w: usize) ->
     go_on(words, w, phase + 1, steps)
 }
 
-// Line 22: the number read at 21 is stored only if the stamp is still to be decided.
+// Line 22's compare-and-swap, in the node part: the number is stored only if the stamp is still to be decided. Says whether it was stored.
+pub fn store_stamp(nodes: &mut [u32], n: usize, seen: u32) -> bool
+    requires { ⌜ node-words * n + 2 < length (now nodes) ⌝ }
+    ensures { λ r. ⌜ (r ≡ eqb (getD (now (nodes .entry)) (node-words * n + 2) 0) 4294967295)
+        × (now (nodes .exit) ≡ stored (now (nodes .entry)) (cond r ((node-words * n + 2) gets seen ∷ []) [])) ⌝ }
+{
+    if nodes::word(nodes, n, STAMP) == TBD {
+        nodes::write(nodes, n, STAMP, seen);
+        return true;
+    }
+    false
+}
+
+// Line 22: the compare-and-swap, with the number read at 21.
 pub fn line_22(words: &mut [u32], items_at: usize, nodes_at: usize, w: usize) -> Answer
     requires { ⌜ Ready «items_at» «nodes_at» w (now words) × Has-node w (now words) ⌝ }
     ensures { λ r. ⌜ Steps help-22 «items_at» «nodes_at» w (now (words .entry)) r (now (words .exit)) ⌝ }
@@ -76,9 +94,6 @@ pub fn line_22(words: &mut [u32], items_at: usize, nodes_at: usize, w: usize) ->
     if bad_stamp(stamp, words[COUNTER]) {
         return refuse(2);
     }
-    if stamp == TBD { // the compare-and-swap
-        nodes::write(&mut words[nodes_at..], n, STAMP, seen);
-        return go_on(words, w, phase + 1, steps);
-    }
+    store_stamp(&mut words[nodes_at..], n, seen);
     go_on(words, w, phase + 1, steps)
 }

@@ -26,7 +26,8 @@ pub fn write(nodes: &mut [u32], n: usize, field: usize, what: u32)
 // All of node n is written, as line 45 and register make it.
 pub fn make(nodes: &mut [u32], n: usize, value: u32, older: u32, stamp: u32)
     requires { ⌜ node-words * n + 2 < length (now nodes) ⌝ }
-    ensures { λ _. ⌜ now (nodes .exit) ≡ stored (now (nodes .entry)) ((node-words * n + 0) gets value ∷ (node-words * n + 1) gets older ∷ (node-words * n + 2) gets stamp ∷ []) ⌝ }
+    ensures { λ _. ⌜ now (nodes .exit) ≡ stored (now (nodes .entry))
+        ((node-words * n + 0) gets value ∷ (node-words * n + 1) gets older ∷ (node-words * n + 2) gets stamp ∷ []) ⌝ }
 {
     nodes[NODE_WORDS * n + VALUE] = value;
     nodes[NODE_WORDS * n + OLDER] = older;

@@ -6,51 +6,51 @@ use Rattle.tables.proofs.nodes.make.Tie as tie
 use Rattle.tables.proofs.nodes.make.Reads as reads
 use Rattle.tables.proofs.nodes.make.Lts as lts
 
--- src/nodes.rt:30:11
+-- src/nodes.rt:31:11
 mul-nodes : tie.Need-mul-nodes
 mul-nodes c = search needs
 
--- src/nodes.rt:30:11
+-- src/nodes.rt:31:11
 add-nodes : tie.Need-add-nodes
 add-nodes c = search needs
 
--- src/nodes.rt:30:5
+-- src/nodes.rt:31:5
 mul-nodes-2 : tie.Need-mul-nodes-2
 mul-nodes-2 c = search needs
 
--- src/nodes.rt:30:5
+-- src/nodes.rt:31:5
 slice-write-nodes : tie.Need-slice-write-nodes
 slice-write-nodes c = search needs
 
--- src/nodes.rt:31:11
+-- src/nodes.rt:32:11
 mul-nodes-3 : tie.Need-mul-nodes-3
 mul-nodes-3 c = search needs
 
--- src/nodes.rt:31:11
+-- src/nodes.rt:32:11
 add-nodes-2 : tie.Need-add-nodes-2
 add-nodes-2 c = search needs
 
--- src/nodes.rt:31:5
+-- src/nodes.rt:32:5
 mul-nodes-4 : tie.Need-mul-nodes-4
 mul-nodes-4 c = search needs
 
--- src/nodes.rt:31:5
+-- src/nodes.rt:32:5
 slice-write-nodes-2 : tie.Need-slice-write-nodes-2
 slice-write-nodes-2 c = simp length-set (omega arith)
 
--- src/nodes.rt:32:11
+-- src/nodes.rt:33:11
 mul-nodes-5 : tie.Need-mul-nodes-5
 mul-nodes-5 c = search needs
 
--- src/nodes.rt:32:11
+-- src/nodes.rt:33:11
 add-nodes-3 : tie.Need-add-nodes-3
 add-nodes-3 c = search needs
 
--- src/nodes.rt:32:5
+-- src/nodes.rt:33:5
 mul-nodes-6 : tie.Need-mul-nodes-6
 mul-nodes-6 c = search needs
 
--- src/nodes.rt:32:5
+-- src/nodes.rt:33:5
 slice-write-nodes-3 : tie.Need-slice-write-nodes-3
 slice-write-nodes-3 c = search needs
 
