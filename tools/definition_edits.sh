@@ -1,8 +1,8 @@
 #!/usr/bin/env bash
 # usage: bash tools/definition_edits.sh [NAME..]: puts each edit of tools/definition_edits into a copy of the crates, alone, and has the crate checked that its line
-# 'by:' names: reached, which ties every call of the words to the machine that demands 2 and 3 are proved of, or runs, the fifteen runs. All below it must still
-# be proved, and it must be refused, by an error in its own files; and without an edit both must be proved. rt's own must-fail edits cannot show this, since they
-# check the edited crate alone. Two are tried at a time.
+# 'by:' names: reached, which ties every call of the words to the machine that demands 2 and 3 are proved of; history, the machine's own theorems; or runs, the
+# fifteen runs. All below it must still be proved, and it must be refused, by an error in its own files; and without an edit all must be proved. rt's own must-fail
+# edits cannot show this, since they check the edited crate alone. Two are tried at a time.
 set -eu
 cd "$(dirname "$0")/.."
 
@@ -11,6 +11,7 @@ try_edit() {
   edit=tools/definition_edits/$1.edit there=$(mktemp -d) below="definitions cells history"
   trap 'rm -rf "$there"' EXIT
   case $1 in unchanged-*) by=${1#unchanged-} edit= ;; *) by=$(sed -n 's/^by: //p' "$edit") ;; esac
+  if [ "$by" = history ]; then below="definitions cells"; fi
   mkdir "$there/crates"
   for crate in $below "$by"; do cp -R "crates/$crate" "$there/crates/"; rm -rf "$there/crates/$crate/must-fail"; done
   grep -E "^(${below// /|}|$by):" crates.txt > "$there/crates.txt"

@@ -14,7 +14,8 @@ use Rattle.history.specs.Tools.{by-eq, by-test, Split, split}
 use Rattle.history.specs.Notes.{Note, if-accepted, start-of, ledger, snapshot, object-at}
 use Rattle.history.specs.Notes as Notes
 use Rattle.history.specs.NoteParts.{note-tag}
-use Rattle.history.specs.Statements.{In, Free, object-now, Asked}
+use Rattle.history.specs.Statements.{In, Free}
+use Rattle.history.specs.Demands.{object-now, Asked}
 use Rattle.history.specs.Effects.{effects}
 use Rattle.history.specs.Machine.{Event, Limits, Operation, register, v-read, v-cas, take-snapshot, read-snapshot, total, Worker, idle, busy,
     Catalogue, Move, unless, is-idle, start-refusals, worker-refusals, begun, starting, move, reply, after-events}
@@ -43,7 +44,7 @@ passed-unless s (r ∷ rs) x z y d =
       (λ t. by-eq (λ (u : Note). u ≡ y → Passed (r ∷ rs)) (16 + r .number) 2 (λ e. absurd (omega arith)) (λ n e. absurd (d (sym e))))
       (λ t e. (t, passed-unless s rs x z y d e))
 
-starts : (s : Catalogue) (w : ℕ) (op : Operation) →
+pub starts : (s : Catalogue) (w : ℕ) (op : Operation) →
     (if-accepted (starting s w op .answer) (Notes.started w op) ≡ Notes.started w op) ↔ Passed (worker-refusals s w op)
 unfolding starting
 starts s w op =
@@ -80,13 +81,13 @@ nor false b t u = u
 
 module _ (s : Catalogue) (invariant : Invariant s) (run : List Note) (A : Agrees s run) (E : Effected s run) where
   -- an idle worker
-  idle-free : (w : ℕ) → T (not (not (is-idle (s .worker w)))) → Free run w
+  pub idle-free : (w : ℕ) → T (not (not (is-idle (s .worker w)))) → Free run w
   idle-free w t o e z = at (A .running o e)
     where
       at : Runs s o (ledger run .fate o) → ⊥
       at (l, ph, is) = subst (λ (b : Bool). T (not (not b))) (ap is-idle (ap (s .worker) (sym z) ∙ is)) t
 
-  free-idle : (w : ℕ) → Free run w → T (not (not (is-idle (s .worker w))))
+  pub free-idle : (w : ℕ) → Free run w → T (not (not (is-idle (s .worker w))))
   free-idle w free = at (s .worker w) refl
     where
       at : (x : Worker) → s .worker w ≡ x → T (not (not (is-idle x)))
@@ -106,15 +107,15 @@ module _ (s : Catalogue) (invariant : Invariant s) (run : List Note) (A : Agrees
       there = invariant .kept .memory .registered i p
 
   -- an item born at some time is registered
-  born-registered : (i τ : ℕ) → Born i (object-at τ (effects run)) → i < s .memory .items
+  pub born-registered : (i τ : ℕ) → Born i (object-at τ (effects run)) → i < s .memory .items
   born-registered i τ b = is-registered s invariant run E i (born-exactly s invariant run E i τ .0 b .0)
 
   -- a handle that the counter left
-  left-handle : (left h : ℕ) → In (snapshot left h) (effects run) → (h < s .memory .camera .counter) × (left ≡ s .memory .camera .left-at h)
+  pub left-handle : (left h : ℕ) → In (snapshot left h) (effects run) → (h < s .memory .camera .counter) × (left ≡ s .memory .camera .left-at h)
   left-handle left h a = left-then (s .memory) h left (E .memory .only (snapshot left h) a)
 
   -- an item whose birth stamp is not above a handle that the counter left was born before that
-  stamp-born : (i h : ℕ) → i < s .memory .items → h < s .memory .camera .counter → s .memory .item i .stamp 0 ≤ h →
+  pub stamp-born : (i h : ℕ) → i < s .memory .items → h < s .memory .camera .counter → s .memory .item i .stamp 0 ≤ h →
       Born i (object-at (s .memory .camera .left-at h) (effects run))
   stamp-born i h p q r = born-exactly s invariant run E i (s .memory .camera .left-at h) .1
       (there, omega (arith, invariant .kept .memory .item i .counted 0 there .ahead h r q))
@@ -122,7 +123,7 @@ module _ (s : Catalogue) (invariant : Invariant s) (run : List Note) (A : Agrees
       there : 0 < s .memory .item i .valid
       there = invariant .kept .memory .registered i p
 
-  born-stamp : (i h : ℕ) → Born i (object-at (s .memory .camera .left-at h) (effects run)) → s .memory .item i .stamp 0 ≤ h
+  pub born-stamp : (i h : ℕ) → Born i (object-at (s .memory .camera .left-at h) (effects run)) → s .memory .item i .stamp 0 ≤ h
   born-stamp i h p = at (split h (s .memory .item i .stamp 0))
     where
       first : (0 < s .memory .item i .valid) × (s .memory .item i .effect-at 0 ≤ s .memory .camera .left-at h)

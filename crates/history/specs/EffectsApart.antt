@@ -17,7 +17,7 @@ use Rattle.history.specs.MachineNotes.{machine-notes}
 use Rattle.history.specs.Trace.{Stamping, Traced}
 use Rattle.history.specs.TraceRun.{traced}
 use Rattle.history.specs.Moments.{BornBy, Moments, moments}
-use Rattle.history.specs.Instants.{stamped-first, change-stamped}
+use Rattle.history.specs.Instants.{stamped-before, change-stamped}
 use Rattle.history.specs.Immediately.{noted-one, same-event, other-line, not-registered, same-change}
 use Rattle.history.specs.EffectsRight.{version-effect, snapshot-effect, IsEffect, of-version, of-counter, left-then}
 use Rattle.history.specs.EffectLaws.{birth-among, snapshot-among}
@@ -107,7 +107,7 @@ module _ (s : Catalogue) (invariant : Invariant s) (run : List Note) (trace : Tr
 
     -- a version before that one has its stamp before p
     not-before : at-22 .0 < at-46 .0 → ⊥
-    not-before u = omega (arith, stamped-first (invariant .kept .memory) i (suc (at-22 .0)) (suc (at-46 .0)) (omega arith) (at-46 .1), at-46 .2,
+    not-before u = omega (arith, stamped-before (invariant .kept .memory) i (suc (at-22 .0)) (suc (at-46 .0)) (omega arith) (at-46 .1), at-46 .2,
         at-22 .2,
         F .2 .0)
 
@@ -131,7 +131,7 @@ module _ (s : Catalogue) (invariant : Invariant s) (run : List Note) (trace : Tr
         by : Split (at-22 .0) (at-46 .0) → Split (at-46 .0) (at-22 .0) → z ≡ s .memory .item i .stamped-at (suc j)
         by (Split.less u) w = absurd (not-before u)
         by (Split.more u) (Split.less w) =
-            absurd (omega (arith, first, at-22 .2, stamped-first (invariant .kept .memory) i (suc (at-46 .0)) (suc (at-22 .0)) (omega arith)
+            absurd (omega (arith, first, at-22 .2, stamped-before (invariant .kept .memory) i (suc (at-46 .0)) (suc (at-22 .0)) (omega arith)
               (omega (arith, at-22 .1, invariant .kept .memory .item i .valid-published)), invariant .kept .memory .item i .effect-after-46
               (suc (at-22 .0)) (at-22 .1), invariant .kept .memory .item i .effect-before-22 (suc (at-22 .0)) (at-22 .1)))
         by (Split.more u) (Split.more w) =

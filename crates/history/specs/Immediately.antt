@@ -21,7 +21,7 @@ use Rattle.history.specs.Order.{has-one-order}
 use Rattle.history.specs.Trace.{HeadTraced, CasTraced, ends-43, ends-48, ends-52, EndTraced, Stamping, Traced, noted-past}
 use Rattle.history.specs.Moments.{Ended, BornBy, Moments}
 use Rattle.history.specs.TraceRun.{done-past}
-use Rattle.history.specs.Instants.{stamped-first, lost-to}
+use Rattle.history.specs.Instants.{stamped-before, lost-to}
 
 -- ---- at one time there is one note
 
@@ -95,7 +95,7 @@ module _ (s : Catalogue) (invariant : Invariant s) (run : List Note) (T : Traced
       when' : s .memory .item i .stamped-at (suc j) ≡ s .memory .item i .stamped-at (suc g)
       when' = ap (λ (n : ℕ). s .memory .item n .stamped-at (suc j)) (sym item) ∙ when
       rises : (a b : ℕ) → a < b → b < s .memory .item i .valid → s .memory .item i .stamped-at a < s .memory .item i .stamped-at b
-      rises a b q r = omega (arith, stamped-first (invariant .kept .memory) i a b q (omega (arith, invariant .kept .memory .item i .valid-published)),
+      rises a b q r = omega (arith, stamped-before (invariant .kept .memory) i a b q (omega (arith, invariant .kept .memory .item i .valid-published)),
           invariant .kept .memory .item i .effect-after-46 b r, invariant .kept .memory .item i .effect-before-22 b r)
       version : Same j g → suc j ≡ suc g
       version (eq z) = ap suc z

@@ -53,7 +53,7 @@ call-below s invariant B =
       (λ w o l ph b e. after-line s B w o l ph b (line (s .now) (s .memory) ph .comes))
 
 -- what a step of a worker in an operation is noted as
-noted-as : (w k : ℕ) (d : Deed) (n : List ℕ) (u : Comes) (op : Operation) (p : Bool) (t o : ℕ) (m : Memory) → ComesRight t o n m op p u →
+pub noted-as : (w k : ℕ) (d : Deed) (n : List ℕ) (u : Comes) (op : Operation) (p : Bool) (t o : ℕ) (m : Memory) → ComesRight t o n m op p u →
     step-note w k d (step-answer n u) ≡ Notes.stepped w k d (ending u)
 noted-as w k d n (goes-on ph) op p t o m c = refl
 noted-as w k d n (answers-change x) op p t o m c = refl

@@ -18,9 +18,9 @@ use Rattle.history.specs.Trace.{FetchedBy, LostAt, Stamping, Traced}
 
 module _ {t : ℕ} {m : Memory} (known : MemoryFacts t m) (i : ℕ) where
   -- a version has its stamp before the next is published
-  pub stamped-first : (a b : ℕ) → a < b → b < m .item i .versions → m .item i .stamped-at a < m .item i .published-at b
-  stamped-first a zero p q = absurd (omega arith)
-  stamped-first a (suc b) p q = at (stamped-first a b) (same? a b)
+  pub stamped-before : (a b : ℕ) → a < b → b < m .item i .versions → m .item i .stamped-at a < m .item i .published-at b
+  stamped-before a zero p q = absurd (omega arith)
+  stamped-before a (suc b) p q = at (stamped-before a b) (same? a b)
     where
       at : (a < b → b < m .item i .versions → m .item i .stamped-at a < m .item i .published-at b) → Same a b →
           m .item i .stamped-at a < m .item i .published-at (suc b)
@@ -32,7 +32,7 @@ module _ {t : ℕ} {m : Memory} (known : MemoryFacts t m) (i : ℕ) where
           below = omega (arith, known .item i .one-open)
 
   pub published-rises : (a b : ℕ) → a < b → b < m .item i .versions → m .item i .published-at a < m .item i .published-at b
-  published-rises a b p q = omega (arith, stamped-first a b p q, known .item i .effect-after-46 a below, known .item i .effect-before-22 a below)
+  published-rises a b p q = omega (arith, stamped-before a b p q, known .item i .effect-after-46 a below, known .item i .effect-before-22 a below)
     where
       below : a < m .item i .valid
       below = omega (arith, known .item i .one-open)
@@ -42,7 +42,7 @@ module _ {t : ℕ} {m : Memory} (known : MemoryFacts t m) (i : ℕ) where
     where
       at : Same a b → m .item i .stamped-at a ≤ m .item i .stamped-at b
       at (eq e) = subst (λ (a : ℕ). m .item i .stamped-at a ≤ m .item i .stamped-at b) (sym e) (omega arith)
-      at (ne e) = omega (arith, stamped-first a b (omega arith) (omega (arith, known .item i .valid-published)), known .item i .effect-after-46 b q,
+      at (ne e) = omega (arith, stamped-before a b (omega arith) (omega (arith, known .item i .valid-published)), known .item i .effect-after-46 b q,
           known .item i .effect-before-22 b q)
 
 -- ---- the instants
@@ -63,7 +63,7 @@ module _ (s : Catalogue) (invariant : Invariant s) (run : List Note) (T : Traced
         where
           by : Split j' j → s .memory .item i .stamped-at (suc j) ≤ s'
           by (Split.less u) =
-              absurd (omega (arith, stamped-first (invariant .kept .memory) i (suc j') (suc j) (omega arith)
+              absurd (omega (arith, stamped-before (invariant .kept .memory) i (suc j') (suc j) (omega arith)
               (omega (arith, invariant .kept .memory .item i .valid-published))))
           by (Split.more u) = omega (arith, stamped-rises (invariant .kept .memory) i (suc j) (suc j') (omega arith) h)
 

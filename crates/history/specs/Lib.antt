@@ -3,6 +3,7 @@ pub mod Tools
 pub mod Notes
 pub mod NoteParts
 pub mod Statements
+pub mod Demands
 pub mod Effects
 pub mod Machine
 pub mod Runs
@@ -43,7 +44,8 @@ pub mod TotalRun
 pub mod ExactTotals
 pub mod Examples
 pub mod CountsRight
-pub mod StepsTold
+pub mod AnswersTold
+pub mod Refusals
 pub mod InWork
 pub mod Accepts
 pub mod NodesInUse
@@ -51,5 +53,6 @@ pub mod Registers
 pub mod LineEnds
 pub mod EffectLaws
 pub mod EffectsApart
+pub mod StampedFirst
 pub mod Promised
 pub mod BornTold

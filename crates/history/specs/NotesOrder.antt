@@ -16,7 +16,7 @@ use Rattle.history.specs.Machine.{Event, Limits, Place, Catalogue, after
 use Rattle.history.specs.Places.{asked-for, PlaceRight, Invariant}
 use Rattle.history.specs.Facts.{CounterWas}
 use Rattle.history.specs.Run.{run-right}
-use Rattle.history.specs.Instants.{stamped-first, head-instant, change-instant, loss-instant}
+use Rattle.history.specs.Instants.{stamped-before, head-instant, change-instant, loss-instant}
 use Rattle.history.specs.Moments.{Moments, moments}
 use Rattle.history.specs.Immediately.{same-event, right-after}
 use Rattle.history.specs.MachineOrder.{time-of, Pending, Within, inside, in-call}
@@ -117,7 +117,7 @@ module _ (s : Catalogue) (invariant : Invariant s) (run : List Note) (T : Traced
       stamped : Split (suc (P .0)) (s .memory .item i .valid) → suc (P .0) < s .memory .item i .valid
       stamped (Split.less p) = p
       stamped (Split.more q) =
-          absurd (omega (arith, stamped-first (invariant .kept .memory) i (suc (Q .0)) (suc (P .0)) (omega (arith, Q .1)) (P .1), P .2, Q .2,
+          absurd (omega (arith, stamped-before (invariant .kept .memory) i (suc (Q .0)) (suc (P .0)) (omega (arith, Q .1)) (P .1), P .2, Q .2,
               C .4 .2 .0))
 
   told : Agrees s run → Moments s run → Told.OneOrder run

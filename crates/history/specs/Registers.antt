@@ -13,7 +13,7 @@ use Rattle.history.specs.Tools.{Split, split, Same, eq, ne, same?}
 use Rattle.history.specs.Notes.{Note, if-accepted, nodes-in-use}
 use Rattle.history.specs.Notes as Notes
 use Rattle.history.specs.NoteParts.{note-tag}
-use Rattle.history.specs.Statements.{items-now}
+use Rattle.history.specs.Demands.{items-now}
 use Rattle.history.specs.Effects.{effects}
 use Rattle.history.specs.Machine.{Event, Limits, Found, no-node, node, node-to-take, none-left, found, Catalogue, Move, register-refusals, registered,
     registering, move, reply, after-events}
@@ -28,7 +28,7 @@ use Rattle.history.specs.Accepts.{unless-passed, passed-unless, above, r
 use Rattle.history.specs.NodesInUse.{Counted, not-found, none-left-exactly, in-use}
 
 -- the items that the effects tell of are those registered
-items-told : (s : Catalogue) → Invariant s → (run : List Note) → Agrees s run → Effected s run → items-now run (effects run) ≡ s .memory .items
+pub items-told : (s : Catalogue) → Invariant s → (run : List Note) → Agrees s run → Effected s run → items-now run (effects run) ≡ s .memory .items
 items-told s invariant run A E = at (split (items-now run (effects run)) (s .memory .items))
   where
     at : Split (items-now run (effects run)) (s .memory .items) → items-now run (effects run) ≡ s .memory .items
@@ -38,7 +38,7 @@ items-told s invariant run A E = at (split (items-now run (effects run)) (s .mem
 
 module _ (s : Catalogue) (Y : Tally s) (run : List Note) (C : Counted (s .memory) (nodes-in-use run)) where
   -- a node is left exactly where not all are in use
-  node-left : T (not (none-left (node-to-take (s .memory)))) ↔ (nodes-in-use run < s .memory .limits .nodes)
+  pub node-left : T (not (none-left (node-to-take (s .memory)))) ↔ (nodes-in-use run < s .memory .limits .nodes)
   node-left = at (node-to-take (s .memory)) (none-left-exactly s Y (nodes-in-use run) C)
     where
       at : (g : Found) → (g ≡ no-node) ↔ (nodes-in-use run ≡ s .memory .limits .nodes) →

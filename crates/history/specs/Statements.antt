@@ -1,20 +1,17 @@
--- What is promised of a run: the instants of document 01, the one order of demand 2, the exact reads of demand 3, lines and steps, never damage.
+-- What is promised of the notes of a run: the instants of document 01, the one order of demand 2, the exact reads of demand 3, lines and steps.
 -- Letters: o, q and c are operations, named by the times of their starts; i is an item, v a value, h a handle; τ is an instant, and t, f, p, r and s
 -- are times, the indices of notes: f of a fetch of the head, p of a publication at 46, r of a line 21 and s of the line 22 after it.
 use mathlib.Core.Path.{_≡_}
 use mathlib.Core.Logic.{_≢_, _⊎_, _↔_}
 use mathlib.Core.Bool.{Bool, true, false, cond, not}
 use mathlib.Core.List.{List, [], _∷_, _++_, map}
-use Prim.Native.Nat.{ℕ, suc, pred, _+_, _≤_, _<_}
+use Prim.Native.Nat.{ℕ, suc, _+_, _≤_, _<_}
 use lib.ListN.{length, getD}
-use Rattle.definitions.specs.Calls.{Call, outcome}
-use Rattle.cells.specs.WellFormed.{Well-formed}
 pub use Rattle.history.specs.Definition1.{In, Once}
-use Rattle.history.specs.Definition1.{Operation, register, v-read, v-cas, take-snapshot, read-snapshot, total, Object, total-of, Born,
-    Follows, Legal}
+use Rattle.history.specs.Definition1.{Operation, register, v-read, v-cas, take-snapshot, read-snapshot, total, total-of, Born, Follows,
+    Legal}
 use Rattle.history.specs.Notes.{Deed, fetches, finds, publishes, stamps, moves, nothing, Ending, goes-on, answers, ends-with, Note, registered,
-    started, stepped, start-of, note, Run-call, damaged-code, Fate, ledger, nodes-in-use, read-lines, WholeLines, RefusedLines, most-steps, Effect,
-    birth, change, snapshot, time, object-at, changes-between}
+    stepped, Fate, ledger, read-lines, WholeLines, RefusedLines, most-steps, Effect, birth, change, snapshot, time, object-at, changes-between}
 
 -- ---- times
 
@@ -182,22 +179,6 @@ module _ (run : List Note) where
       pub later : (i : ℕ) → Born i (object-at o effects) → (Born i (object-at left effects) → ⊥) →
         (t : ℕ) × (v : ℕ) × (s : ℕ) × In (birth t i v s) effects × (left < t) × (t ≤ o)
 
-    -- ---- starts
-
-    -- Definition 1's object now, and how many items there are; and what a start asks for, where there are q projects: its item is registered, its values
-    -- are projects, the counter has left its handle, and the item of a readSnapshot was registered before that. A register is no start.
-    abbrev pub object-now : Object
-    object-now = object-at (length run) effects
-    abbrev pub items-now : ℕ
-    items-now = object-now .items
-    abbrev pub Asked : (q : ℕ) → Operation → Type 0
-    Asked q (register i v s) = ⊥
-    Asked q (v-read i) = Born i object-now
-    Asked q (v-cas i old new) = Born i object-now × (old < q) × (new < q)
-    Asked q take-snapshot = Unit {0}
-    Asked q (read-snapshot i h) = (left : ℕ) × In (snapshot left h) effects × Born i (object-at left effects)
-    Asked q (total r h) = (r < q) × (left : ℕ) × In (snapshot left h) effects
-
     -- ---- all that is promised of the notes of a run
 
     pub record Promises : Type 0 where
@@ -210,6 +191,8 @@ module _ (run : List Note) where
       -- the counter leaves each handle once, in their order
       pub leaves-once : (h t t' : ℕ) → In (snapshot t h) effects → In (snapshot t' h) effects → t ≡ t'
       pub in-turn : (g h t : ℕ) → In (snapshot t h) effects → g < h → (u : ℕ) × In (snapshot u g) effects × (u < t)
+      -- a node has its stamp before the next of its item is published: the first stamp of an item after a publication is that node's
+      pub stamped-first : (i p p' : ℕ) → Published i p → Published i p' → p < p' → (s : ℕ) × Stamped i s × (p < s) × (s < p')
       -- items are born in the order of their numbers
       pub born-in-turn : (i τ : ℕ) → Born i (object-at τ effects) ↔ (i < object-at τ effects .items)
       -- demand 3: reads are exact
@@ -226,30 +209,3 @@ module _ (run : List Note) where
       -- an operation that goes on is its worker's latest, and has not taken the most steps that it may take: one that is stepped so often has ended
       pub progress : (o : ℕ) → fate-of o .ending ≡ goes-on →
         (ledger run .current (fate-of o .worker) ≡ o) × (length (fate-of o .lines) < most-steps (fate-of o .operation))
-
--- ---- and of its words now, where run has its notes and the catalogue was made with p workers, m items, n nodes, q projects and a counter up to c
-
-pub record Demands (p m n q c : ℕ) (now : List ℕ) (run : List Note) : Type 0 where
-  -- no call answers 2, and the words are well-formed
-  pub never-2 : (x : Call) → Run-call now x → outcome now x .answer .code ≢ damaged-code
-  pub formed : Well-formed now
-  -- demands 2 and 3
-  pub effects : List Effect
-  pub promises : Promises run effects
-  -- a start is accepted exactly when its worker is there and free, and what it asks for is there
-  pub accepted : (w : ℕ) (op : Operation) → (note now (start-of w op) ≡ started w op) ↔ ((w < p) × Free run w × Asked run effects q op)
-  -- a register is accepted exactly when its value is a project and there is room for an item and a node
-  pub registers : (v s : ℕ) → Run-call now (Call.register v s) → (note now (Call.register v s) ≡ registered (items-now run effects) v s)
-    ↔ ((v < q) × (items-now run effects < m) × (nodes-in-use run < n))
-  -- a step at line 45 ends with number 11 exactly when all nodes are in use
-  pub no-node : (w : ℕ) (d : Deed) (e : Ending) → note now (Call.step w) ≡ stepped w 45 d e → (e ≡ ends-with 11) ↔ (nodes-in-use run ≡ n)
-  -- the counter leaves no handle from c on, and a step at line 5 ends with number 12 exactly when it has left the last, c - 1
-  pub handles : (h t : ℕ) → In (snapshot t h) effects → h < c
-  pub full : (w : ℕ) (d : Deed) (e : Ending) → note now (Call.step w) ≡ stepped w 5 d e →
-    (e ≡ ends-with 12) ↔ ((t : ℕ) × In (snapshot t (pred c)) effects)
-  -- an operation that goes on is never refused a step
-  pub never-stuck : (o : ℕ) → fate-of run o .ending ≡ goes-on →
-    (line : ℕ) × (d : Deed) × (e : Ending) × (note now (Call.step (fate-of run o .worker)) ≡ stepped (fate-of run o .worker) line d e)
-  -- the answer of a step carries the number of lines that its operation has executed, that line included
-  pub every-step : (w line : ℕ) (d : Deed) (e : Ending) → note now (Call.step w) ≡ stepped w line d e →
-    outcome now (Call.step w) .answer .steps ≡ length (line ∷ fate-of run (ledger run .current w) .lines)

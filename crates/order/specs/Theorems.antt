@@ -3,7 +3,7 @@
 use mathlib.Core.Path.{_≡_, refl, ap, sym, _∙_, subst, subst-refl, pathJ}
 use mathlib.Core.Logic.{_↔_, _≢_}
 use mathlib.Core.List.{List, _∷_, map}
-use Prim.Native.Nat.{ℕ, pred, _<_}
+use Prim.Native.Nat.{ℕ, pred, _+_, _<_}
 use native.Mathlib.Omega.{arith}
 use lib.ListN.{length}
 use Rattle.definitions.specs.declared.Answer.{Answer}
@@ -12,13 +12,15 @@ use Rattle.history.specs.Definition1.{Operation, register, v-read, v-cas, take-
 use Rattle.history.specs.Notes.{Deed, Ending, goes-on, ends-with, Note, registered, started, stepped, start-of, note, words-after, notes, start,
     Run-call, Run, History, nodes-in-use, snapshot, ledger}
 use Rattle.history.specs.Effects.{effects}
-use Rattle.history.specs.Statements.{In, fate-of, items-now, Free, Asked, Promises, Demands}
+use Rattle.history.specs.Statements.{In, fate-of, Free, Promises}
+use Rattle.history.specs.Demands.{Least, numbers, step-numbers, items-now, Asked, Applies, Demands}
 use Rattle.history.specs.Accepts.{register-starts-none, accepts}
 use Rattle.history.specs.Registers as Registers
 use Rattle.history.specs.LineEnds.{ends-45, ends-5, below-limit}
-use Rattle.history.specs.StepsTold.{steps-told}
+use Rattle.history.specs.AnswersTold.{step-told, start-told, register-told}
+use Rattle.history.specs.Refusals.{refuses}
 use Rattle.history.specs.InWork.{always-steps}
-use Rattle.history.specs.Machine.{Limits, Event, Catalogue}
+use Rattle.history.specs.Machine.{Limits, Event, Catalogue, reply}
 use Rattle.history.specs.MachineNotes.{machine-note, machine-notes}
 use Rattle.history.specs.NotesOrder.{notes-order}
 use Rattle.history.specs.Promised.{promised}
@@ -90,12 +92,33 @@ module _ (p m n q c : ℕ) {now : List ℕ} {run : List Note} (history : History
           ≡ stepped (fate-of (machine-notes limits es) o .worker) line d e)
       x = always-steps limits es (I .below) o (sym (ap (λ (l : List Note). fate-of l o .ending) (I .told-is)) ∙ b)
 
+  -- ---- the numbers of an answer
+
+  -- what the machine's note of a call says of its answer, the words' note says of theirs
+  pub of-answer : (x : Call) → Run-call now x → (a : Answer) (y : Note) → note now x ≡ y → (machine-note state x ≡ y → reply state x ≡ a) →
+      outcome now x .answer ≡ a
+  of-answer x k a y e told = called-same p m n q c history x k .answer-is ∙ told (sym (noted-same p m n q c history x k) ∙ e)
+
   pub every-step : (w line : ℕ) (d : Deed) (e : Ending) → note now (Call.step w) ≡ stepped w line d e →
-    outcome now (Call.step w) .answer .steps ≡ length (line ∷ fate-of run (ledger run .current w) .lines)
+    outcome now (Call.step w) .answer ≡ step-numbers e (length (line ∷ fate-of run (ledger run .current w) .lines))
   every-step w line d e x =
-      ap (λ (a : Answer). a .steps) (called-same p m n q c history (Call.step w) (a-step w) .answer-is)
-        ∙ steps-told limits es w line d e (sym (same-step w) ∙ x)
-        ∙ ap (λ (l : List Note). length (line ∷ fate-of l (ledger l .current w) .lines)) (sym (I .told-is))
+      of-answer (Call.step w) (a-step w) _ _ x (step-told limits es w line d e)
+        ∙ ap (λ (l : List Note). step-numbers e (length (line ∷ fate-of l (ledger l .current w) .lines))) (sym (I .told-is))
+
+  pub every-start : (w : ℕ) (op : Operation) → note now (start-of w op) ≡ started w op → outcome now (start-of w op) .answer ≡ numbers 2 0 0
+  every-start w (register i v s) e = absurd (no-register w i v s e)
+  every-start w (v-read i) e = of-answer _ (sized-call now (Call.v-read w i) (omega arith) refl) _ _ e (start-told state w (v-read i))
+  every-start w (v-cas i old new) e = of-answer _ (sized-call now (Call.v-cas w i old new) (omega arith) refl) _ _ e (start-told state w (v-cas i old new))
+  every-start w take-snapshot e = of-answer _ (sized-call now (Call.take-snapshot w) (omega arith) refl) _ _ e (start-told state w take-snapshot)
+  every-start w (read-snapshot i h) e =
+      of-answer _ (sized-call now (Call.read-snapshot w i h) (omega arith) refl) _ _ e (start-told state w (read-snapshot i h))
+  every-start w (total r h) e = of-answer _ (sized-call now (Call.total w r h) (omega arith) refl) _ _ e (start-told state w (total r h))
+
+  pub refused : (x : Call) (k : ℕ) → Run-call now x → (outcome now x .answer ≡ numbers (16 + k) 0 0) ↔ Least (Applies run (effects run) p m n q x) k
+  refused x k call =
+      subst (λ (l : List Note). (outcome now x .answer ≡ numbers (16 + k) 0 0) ↔ Least (Applies l (effects l) p m n q x) k) (sym (I .told-is))
+        (subst (λ (a : Answer). (a ≡ numbers (16 + k) 0 0) ↔ Least (Applies (machine-notes limits es) (effects (machine-notes limits es)) p m n q x) k)
+          (sym (called-same p m n q c history x call .answer-is)) (refuses limits es x k))
 
   -- Demands 2 and 3 of every history.
   unfoldable pub demands : Demands p m n q c now run
@@ -109,7 +132,8 @@ module _ (p m n q c : ℕ) {now : List ℕ} {run : List Note} (history : History
         handles = λ h t. subst (λ (l : List Note). In (snapshot t h) (effects l) → h < c) (sym (I .told-is)) (below-limit limits es h t);
         full = λ w d e. of-step (λ (x : Note) (l : List Note). x ≡ stepped w 5 d e → (e ≡ ends-with 12) ↔ ((t : ℕ) × In (snapshot t (pred c)) (effects l))) w
             (ends-5 limits es (I .fit .counter-in .0) (Call.step w) w d e);
-        never-stuck = never-stuck; every-step = every-step }
+        never-stuck = never-stuck; every-start = every-start;
+        every-register = λ i v s k e. of-answer (Call.register v s) k _ _ e (register-told state i v s); every-step = every-step; refused = refused }
 
   -- its order is that of the machine's run
   order-kept : demands .promises .one-order .order ≡ notes-order limits es .order

@@ -6,13 +6,25 @@ use mathlib.Core.List.{List, [], _∷_, _++_}
 use lib.Dec.{eqb}
 use lib.ListN.{replicate}
 use Rattle.definitions.specs.declared.Answer.{Answer}
-use Rattle.definitions.specs.Cells.{Cell, Assignment, _≔_, counter, used, head, needed, cells-of}
-use Rattle.definitions.specs.Answers.{finished, running, accepted, refusal}
+use Rattle.definitions.specs.Cells.{Cell, Assignment, _≔_, counter, used, seen, head, stamp, needed, cells-of}
 use Rattle.definitions.specs.Phases.{table, row-of}
 use Rattle.definitions.specs.Damage.{header-damaged-at, running-damaged, arguments-damaged, kept-damaged}
 use Rattle.definitions.specs.Lines.{fetch-head, line-20, line-21, line-22, line-39, line-43, line-45, line-46, line-48, line-50, line-52, line-5, line-6, line-34, total-32, total-34, closing, lines, line-of-phase}
 use Rattle.definitions.specs.Calls.{Call, Result, making, registering, starting-v-read, starting-v-cas, starting-take-snapshot, starting-read-snapshot, starting-total, stepping, outcome}
 use Rattle.definitions.specs.Calls.Call.{make, register, v-read, v-cas, take-snapshot, read-snapshot, total, step}
+
+-- The answers that document 01 gives, in its own numbers and not by the words of the definitions: code, value and steps, and the two later numbers, 0.
+-- 00 finished, 01 running with value 0, 02 started, made or registered with steps 0, 16 + n refused with value 0.
+abbrev numbers : (code value steps : ℕ) → Answer
+numbers code value steps = record { code = code; value = value; steps = steps; stamped = 0; operator = 0 }
+abbrev finished : (value steps : ℕ) → Answer
+finished value steps = numbers 0 value steps
+abbrev running : (steps : ℕ) → Answer
+running steps = numbers 1 0 steps
+abbrev accepted : (value : ℕ) → Answer
+accepted value = numbers 2 value 0
+abbrev refusal : (n steps : ℕ) → Answer
+refusal n steps = numbers (16 + n) 0 steps
 
 -- A run: the sizes of a fresh catalogue, the calls after its make, their answers, and what some cells hold at the end.
 pub record Run : Type 0 where
@@ -93,10 +105,10 @@ fifteen =
     ∷ run (one-item ∷ take-snapshot 0 ∷ steps 2 0 ++ v-cas 1 0 1 2 ∷ steps 5 1 ++ read-snapshot 0 0 0 ∷ steps 6 0)
       (accepted 0 ∷ accepted 0 ∷ running 1 ∷ finished 0 2 ∷ accepted 0 ∷ running-on 0 5 ++ accepted 0 ∷ running-on 0 5 ++ finished 1 6 ∷ []) []
     -- 8. Worker 0's vCAS(1,2) stops after 21, having read 0. Worker 1 takes handle 0, starts readSnapshot, does 32 and 20;
-    -- worker 0 does 22; the read answers 2 in 5.
+    -- worker 0 does 22; the read answers 2 in 5. The node's stamp is the 0 that line 21 read, though the counter is 1.
     ∷ run (one-item ∷ v-cas 0 0 1 2 ∷ steps 7 0 ++ take-snapshot 1 ∷ steps 2 1 ++ read-snapshot 1 0 0 ∷ steps 2 1 ++ step 0 ∷ steps 3 1)
       (accepted 0 ∷ accepted 0 ∷ running-on 0 7 ++ accepted 0 ∷ running 1 ∷ finished 0 2 ∷ accepted 0 ∷ running-on 0 2 ++ running 8 ∷ running-on 2 2
-      ++ finished 2 5 ∷ []) []
+      ++ finished 2 5 ∷ []) (seen 0 ≔ 0 ∷ stamp 1 ≔ 0 ∷ counter ≔ 1 ∷ [])
     -- 9. vCAS(1,2) and vCAS(1,3) both past 45; the first does 46; the second runs out: 0 in 11. The first then: 1 in 7.
     ∷ run contended contended-answers []
     -- 10. N = 1: vCAS(1,2) is refused 11 at step 4.
@@ -109,9 +121,10 @@ fifteen =
     -- 13. C = 1: handle 0, then 12 in 1 step.
     ∷ sized 8 1 (one-item ∷ take-snapshot 0 ∷ steps 2 0 ++ take-snapshot 0 ∷ steps 1 0)
       (accepted 0 ∷ accepted 0 ∷ running 1 ∷ finished 0 2 ∷ accepted 0 ∷ refusal 12 1 ∷ []) []
-    -- 14. Handle equal to the counter: 8. Item registered at counter 1, handle 0: 9.
-    ∷ run (one-item ∷ read-snapshot 0 0 0 ∷ take-snapshot 0 ∷ steps 2 0 ++ read-snapshot 0 0 1 ∷ register 2 7 ∷ read-snapshot 0 1 0 ∷ [])
-      (accepted 0 ∷ refusal 8 0 ∷ accepted 0 ∷ running 1 ∷ finished 0 2 ∷ refusal 8 0 ∷ accepted 1 ∷ refusal 9 0 ∷ []) []
+    -- 14. Handle equal to the counter: 8, of a readSnapshot and of a total. Item registered at counter 1, handle 0: 9.
+    ∷ run (one-item ∷ read-snapshot 0 0 0 ∷ total 0 1 0 ∷ take-snapshot 0 ∷ steps 2 0 ++ read-snapshot 0 0 1 ∷ total 0 1 1 ∷ register 2 7
+        ∷ read-snapshot 0 1 0 ∷ [])
+      (accepted 0 ∷ refusal 8 0 ∷ refusal 8 0 ∷ accepted 0 ∷ running 1 ∷ finished 0 2 ∷ refusal 8 0 ∷ refusal 8 0 ∷ accepted 1 ∷ refusal 9 0 ∷ []) []
     -- 15. No items, one takeSnapshot done: total at handle 0 is 0 in 1 step.
     ∷ run (take-snapshot 0 ∷ steps 2 0 ++ total 0 1 0 ∷ steps 1 0) (accepted 0 ∷ running 1 ∷ finished 0 2 ∷ accepted 0 ∷ finished 0 1 ∷ []) []
     ∷ []
