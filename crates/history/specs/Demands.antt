@@ -9,7 +9,7 @@ use Rattle.definitions.specs.declared.Answer.{Answer}
 use Rattle.definitions.specs.Calls.{Call, outcome}
 use Rattle.cells.specs.WellFormed.{Well-formed}
 use Rattle.history.specs.Definition1.{In, Operation, register, v-read, v-cas, take-snapshot, read-snapshot, total, Object, Born}
-use Rattle.history.specs.Notes.{Deed, Ending, goes-on, answers, ends-with, Note, registered, started, stepped, start-of, note, Run-call,
+use Rattle.history.specs.Notes.{Deed, Ending, goes-on, answers, ends-with, Note, registered, started, stepped, start-of, Catalogue, note-by, Run-call-by,
     damaged-code, ledger, nodes-in-use, Effect, snapshot, object-at}
 use Rattle.history.specs.Statements.{fate-of, Free, Promises}
 
@@ -67,35 +67,38 @@ module _ (run : List Note) (effects : List Effect) where
     Applies (Call.step w) k = Given 3 (p ≤ w) k ⊎ Given 5 (Free run w) k
 
 -- ---- all that is promised: of the words now, where run has the notes and the catalogue was made with p workers, m items, n nodes, q projects and a
--- counter up to c
+-- counter up to c. It is said of any catalogue f, so that wrong ones can be refuted, and promised of `outcome`.
 
-pub record Demands (p m n q c : ℕ) (now : List ℕ) (run : List Note) : Type 0 where
+pub record Demands-by (f : Catalogue) (p m n q c : ℕ) (now : List ℕ) (run : List Note) : Type 0 where
   -- no call answers 2, and the words are well-formed
-  pub never-2 : (x : Call) → Run-call now x → outcome now x .answer .code ≢ damaged-code
+  pub never-2 : (x : Call) → Run-call-by f now x → f now x .answer .code ≢ damaged-code
   pub formed : Well-formed now
   -- demands 2 and 3
   pub effects : List Effect
   pub promises : Promises run effects
   -- a start is accepted exactly when its worker is there and free, and what it asks for is there
-  pub accepted : (w : ℕ) (op : Operation) → (note now (start-of w op) ≡ started w op) ↔ ((w < p) × Free run w × Asked run effects q op)
+  pub accepted : (w : ℕ) (op : Operation) → (note-by f now (start-of w op) ≡ started w op) ↔ ((w < p) × Free run w × Asked run effects q op)
   -- a register is accepted exactly when its value is a project and there is room for an item and a node
-  pub registers : (v s : ℕ) → Run-call now (Call.register v s) → (note now (Call.register v s) ≡ registered (items-now run effects) v s)
+  pub registers : (v s : ℕ) → Run-call-by f now (Call.register v s) → (note-by f now (Call.register v s) ≡ registered (items-now run effects) v s)
     ↔ ((v < q) × (items-now run effects < m) × (nodes-in-use run < n))
   -- a step at line 45 ends with number 11 exactly when all nodes are in use
-  pub no-node : (w : ℕ) (d : Deed) (e : Ending) → note now (Call.step w) ≡ stepped w 45 d e → (e ≡ ends-with 11) ↔ (nodes-in-use run ≡ n)
+  pub no-node : (w : ℕ) (d : Deed) (e : Ending) → note-by f now (Call.step w) ≡ stepped w 45 d e → (e ≡ ends-with 11) ↔ (nodes-in-use run ≡ n)
   -- the counter leaves no handle from c on, and a step at line 5 ends with number 12 exactly when it has left the last, c - 1
   pub handles : (h t : ℕ) → In (snapshot t h) effects → h < c
-  pub full : (w : ℕ) (d : Deed) (e : Ending) → note now (Call.step w) ≡ stepped w 5 d e →
+  pub full : (w : ℕ) (d : Deed) (e : Ending) → note-by f now (Call.step w) ≡ stepped w 5 d e →
     (e ≡ ends-with 12) ↔ ((t : ℕ) × In (snapshot t (pred c)) effects)
   -- an operation that goes on is never refused a step
   pub never-stuck : (o : ℕ) → fate-of run o .ending ≡ goes-on →
-    (line : ℕ) × (d : Deed) × (e : Ending) × (note now (Call.step (fate-of run o .worker)) ≡ stepped (fate-of run o .worker) line d e)
+    (line : ℕ) × (d : Deed) × (e : Ending) × (note-by f now (Call.step (fate-of run o .worker)) ≡ stepped (fate-of run o .worker) line d e)
   -- the numbers of an answer: of a start 02, value 0 and steps 0; of a register 02, its item and steps 0; of a step by how it left its operation, with
   -- the number of lines that the operation has executed, that line included
-  pub every-start : (w : ℕ) (op : Operation) → note now (start-of w op) ≡ started w op → outcome now (start-of w op) .answer ≡ numbers 2 0 0
-  pub every-register : (i v s : ℕ) → Run-call now (Call.register v s) → note now (Call.register v s) ≡ registered i v s →
-    outcome now (Call.register v s) .answer ≡ numbers 2 i 0
-  pub every-step : (w line : ℕ) (d : Deed) (e : Ending) → note now (Call.step w) ≡ stepped w line d e →
-    outcome now (Call.step w) .answer ≡ step-numbers e (length (line ∷ fate-of run (ledger run .current w) .lines))
+  pub every-start : (w : ℕ) (op : Operation) → note-by f now (start-of w op) ≡ started w op → f now (start-of w op) .answer ≡ numbers 2 0 0
+  pub every-register : (i v s : ℕ) → Run-call-by f now (Call.register v s) → note-by f now (Call.register v s) ≡ registered i v s →
+    f now (Call.register v s) .answer ≡ numbers 2 i 0
+  pub every-step : (w line : ℕ) (d : Deed) (e : Ending) → note-by f now (Call.step w) ≡ stepped w line d e →
+    f now (Call.step w) .answer ≡ step-numbers e (length (line ∷ fate-of run (ledger run .current w) .lines))
   -- a call is refused exactly where a number applies to it, with the least that does, value 0 and steps 0
-  pub refused : (x : Call) (k : ℕ) → Run-call now x → (outcome now x .answer ≡ numbers (16 + k) 0 0) ↔ Least (Applies run effects p m n q x) k
+  pub refused : (x : Call) (k : ℕ) → Run-call-by f now x → (f now x .answer ≡ numbers (16 + k) 0 0) ↔ Least (Applies run effects p m n q x) k
+
+abbrev pub Demands : (p m n q c : ℕ) → List ℕ → List Note → Type 0
+Demands = Demands-by outcome

@@ -11,7 +11,7 @@ use Rattle.definitions.specs.declared.Answer.{Answer}
 use Rattle.definitions.specs.Cells.{Cells, cells-of, counter, phase, item, node, new-node, seen, head, value, stamp}
 use Rattle.definitions.specs.Phases.{row-of}
 use Rattle.definitions.specs.Damage.{TBD, any-of}
-use Rattle.definitions.specs.Calls.{Call, outcome}
+use Rattle.definitions.specs.Calls.{Call, Result, outcome}
 use Rattle.history.specs.Definition1.{Operation, register, v-read, v-cas, take-snapshot, read-snapshot, total, Object, put, with-value,
     apply, empty}
 
@@ -89,11 +89,17 @@ start-of w take-snapshot = Call.take-snapshot w
 start-of w (read-snapshot i h) = Call.read-snapshot w i h
 start-of w (total r h) = Call.total w r h
 
--- what a call on words is noted as
-unfoldable pub note : List ℕ → Call → Note
-note ws c =
+-- A catalogue is what each call comes to on any words: `outcome` is the one that is promised. What a call on words is noted as, by any catalogue,
+abbrev pub Catalogue : Type 0
+Catalogue = List ℕ → Call → Result
+unfoldable pub note-by : Catalogue → List ℕ → Call → Note
+note-by f ws c =
     let m = cells-of ws in
-    note-of c (outcome ws c .answer) (λ w. row-of (m (phase w)) .line) (λ w. deed-at (row-of (m (phase w)) .line) m w)
+    note-of c (f ws c .answer) (λ w. row-of (m (phase w)) .line) (λ w. deed-at (row-of (m (phase w)) .line) m w)
+
+-- and by that one
+abbrev pub note : List ℕ → Call → Note
+note = note-by outcome
 
 -- all that is told of a call, the newest first: one note
 unfoldable pub told : List ℕ → Call → List Note
@@ -118,9 +124,11 @@ abbrev pub Typed : Call → Type 0
 Typed x = (v s : ℕ) → x ≡ Call.register v s → s < 4294967296
 
 -- A call of a run: its arguments are numbers of their types, and it is no accepted make.
-pub record Run-call (ws : List ℕ) (x : Call) : Type 0 where
+pub record Run-call-by (f : Catalogue) (ws : List ℕ) (x : Call) : Type 0 where
   pub typed : Typed x
-  pub no-make : (p m n q c : ℕ) → x ≡ Call.make p m n q c → outcome ws x .answer .code ≢ 2
+  pub no-make : (p m n q c : ℕ) → x ≡ Call.make p m n q c → f ws x .answer .code ≢ 2
+abbrev pub Run-call : List ℕ → Call → Type 0
+Run-call = Run-call-by outcome
 
 -- the calls of a run
 abbrev pub Run : List ℕ → List Call → Type 0

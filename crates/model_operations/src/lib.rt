@@ -1,4 +1,4 @@
 // The model's operations: the five starts, and the steps.
 pub mod starts;
-pub mod steps;
+pub mod stepping;
 pub mod vcas;

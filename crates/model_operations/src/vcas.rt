@@ -17,9 +17,9 @@ use model::memory::put;
 use model::memory::set_field;
 use model::memory::sum;
 use model::setup::Reply;
-use crate::steps::ended_by;
-use crate::steps::finished;
-use crate::steps::running;
+use crate::stepping::ended_by;
+use crate::stepping::finished;
+use crate::stepping::running;
 
 const SUCCEEDED: usize = 1;
 

@@ -16,7 +16,7 @@ use Rattle.definitions.specs.Calls.{registering, starting-v-read, starting-v-ca
 use Rattle.history.specs.Definition1.{Operation, put, v-read, v-cas, take-snapshot, read-snapshot, apply, total-to, total-of}
 use Rattle.history.specs.Tools.{Same, same?}
 use Rattle.history.specs.Notes.{Deed, fetches, finds, publishes, stamps, moves, nothing, goes-on, answers, Note, registered, started, stepped, Fate,
-    note, told, words-after, notes, ledger, entered, Effect, birth, change, snapshot, object-at, changes-between}
+    note-by, told, words-after, notes, ledger, entered, Effect, birth, change, snapshot, object-at, changes-between}
 use Rattle.history.specs.Statements.{In, Falling, fate-of, Executed, Stamped, HeadInstant, Instant, TellsOf}
 use Rattle.history.specs.Effects.{insert, last-published, effects}
 use Rattle.history.specs.Immediately.{other-line}
@@ -38,7 +38,7 @@ run =
     ∷ stepped 0 41 (fetches 0 true) goes-on ∷ started 0 (v-cas 0 1 2) ∷ registered 0 1 100 ∷ []
 
 helped-notes : told-of helped ≡ run
-unfolding helped notes told note words-after outcome making registering starting-v-read starting-v-cas starting-take-snapshot starting-read-snapshot
+unfolding helped notes told note-by words-after outcome making registering starting-v-read starting-v-cas starting-take-snapshot starting-read-snapshot
     stepping header-damaged-at arguments-damaged kept-damaged running-damaged table row-of lines line-of-phase fetch-head line-20 line-21 line-22
     line-39 line-43 line-45 line-46 line-48 line-5 line-6 line-34
 helped-notes = refl

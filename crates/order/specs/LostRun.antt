@@ -10,7 +10,7 @@ use Rattle.definitions.specs.Damage.{header-damaged-at, arguments-damaged, kept
 use Rattle.definitions.specs.Lines.{fetch-head, line-20, line-21, line-22, line-43, line-45, line-46, line-48, line-50, line-52, lines, line-of-phase}
 use Rattle.definitions.specs.Calls.{registering, starting-v-cas, stepping, making, outcome}
 use Rattle.history.specs.Definition1.{put, v-cas}
-use Rattle.history.specs.Notes.{fetches, finds, publishes, stamps, nothing, goes-on, answers, Note, registered, started, stepped, note, told,
+use Rattle.history.specs.Notes.{fetches, finds, publishes, stamps, nothing, goes-on, answers, Note, registered, started, stepped, note-by, told,
     words-after, notes, ledger, entered, Effect, birth, change, snapshot, time}
 use Rattle.history.specs.Statements.{In, fate-of, Executed, LossInstant, CasInstant, TellsOf}
 use Rattle.history.specs.Effects.{insert, last-published, effects}
@@ -41,7 +41,7 @@ run =
     ∷ stepped 2 46 (publishes 0 0) goes-on ∷ before-21
 
 lost-notes : told-of lost ≡ run
-unfolding lost notes told note words-after outcome making registering starting-v-cas stepping header-damaged-at arguments-damaged kept-damaged
+unfolding lost notes told note-by words-after outcome making registering starting-v-cas stepping header-damaged-at arguments-damaged kept-damaged
     running-damaged table row-of lines line-of-phase fetch-head line-20 line-21 line-22 line-43 line-45 line-46 line-48 line-50 line-52
 lost-notes = refl
 

@@ -9,7 +9,7 @@ use Rattle.definitions.specs.Damage.{header-damaged-at, arguments-damaged, kept
 use Rattle.definitions.specs.Lines.{fetch-head, line-20, line-39, line-5, line-6, lines, line-of-phase}
 use Rattle.definitions.specs.Calls.{registering, starting-v-read, starting-take-snapshot, stepping, making, outcome}
 use Rattle.history.specs.Definition1.{put, v-read, take-snapshot}
-use Rattle.history.specs.Notes.{fetches, finds, moves, nothing, goes-on, answers, Note, registered, started, stepped, note, told, words-after,
+use Rattle.history.specs.Notes.{fetches, finds, moves, nothing, goes-on, answers, Note, registered, started, stepped, note-by, told, words-after,
     notes, ledger, entered, Effect, birth, snapshot}
 use Rattle.history.specs.Statements.{In, fate-of}
 use Rattle.history.specs.Effects.{insert, last-published, effects}
@@ -26,7 +26,7 @@ run =
     ∷ started 1 take-snapshot ∷ started 0 take-snapshot ∷ registered 0 1 100 ∷ []
 
 shared-notes : told-of shared ≡ run
-unfolding shared notes told note words-after outcome making registering starting-v-read starting-take-snapshot stepping header-damaged-at
+unfolding shared notes told note-by words-after outcome making registering starting-v-read starting-take-snapshot stepping header-damaged-at
     arguments-damaged kept-damaged running-damaged table row-of lines line-of-phase fetch-head line-20 line-39 line-5 line-6
 shared-notes = refl
 

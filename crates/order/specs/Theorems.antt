@@ -9,7 +9,7 @@ use lib.ListN.{length}
 use Rattle.definitions.specs.declared.Answer.{Answer}
 use Rattle.definitions.specs.Calls.{Call, outcome}
 use Rattle.history.specs.Definition1.{Operation, register, v-read, v-cas, take-snapshot, read-snapshot, total}
-use Rattle.history.specs.Notes.{Deed, Ending, goes-on, ends-with, Note, registered, started, stepped, start-of, note, words-after, notes, start,
+use Rattle.history.specs.Notes.{Deed, Ending, goes-on, ends-with, Note, registered, started, stepped, start-of, note-by, note, words-after, notes, start,
     Run-call, Run, History, nodes-in-use, snapshot, ledger}
 use Rattle.history.specs.Effects.{effects}
 use Rattle.history.specs.Statements.{In, fate-of, Free, Promises}
@@ -66,7 +66,7 @@ module _ (p m n q c : ℕ) {now : List ℕ} {run : List Note} (history : History
       of-words (λ (x : Note) (l : List Note). (x ≡ started w op) ↔ ((w < p) × Free l w × Asked l (effects l) q op)) (start-of w op) k (accepts limits es w op)
 
   no-register : (w i v s : ℕ) → note now (Call.register v s) ≢ started w (register i v s)
-  unfolding note
+  unfolding note-by
   no-register w i v s = register-starts-none (outcome now (Call.register v s) .answer) (outcome now (Call.register v s) .answer .value) v s w (register i v s)
 
   pub accepted : (w : ℕ) (op : Operation) → (note now (start-of w op) ≡ started w op) ↔ ((w < p) × Free run w × Asked run (effects run) q op)

@@ -1,7 +1,7 @@
 // Document 01's generator. The sum that wraps is supplied, the product that wraps is a proved helper of its own.
 ghost use mathlib.Core.Path.{_≡_};
-ghost use Prim.Native.Nat.{_*_, _%_, _<_};
-ghost use Rattle.random.specs.Generator.{next-of, draw-of};
+ghost use Prim.Native.Nat.{_*_, _%_};
+ghost use Rattle.random.specs.Generator.{next-of, draw-of, draw-among};
 
 // The product, wrapping at 32 bits.
 pub fn wrapping_mul(x: u32, y: u32) -> u32
@@ -26,7 +26,7 @@ pub fn draw(x: u32) -> u32
 
 // That draw among some: which worker steps next, where there are that many workers. Among none it is 0.
 pub fn draw_among(x: u32, some: u32) -> u32
-    ensures { λ r. ⌜ (0 < some → r ≡ draw-of x % some) ⌝ }
+    ensures { λ r. ⌜ r ≡ draw-among x some ⌝ }
 {
     if some == 0 {
         return 0;

@@ -14,7 +14,7 @@ use Rattle.definitions.specs.Phases.{row-of, table}
 use Rattle.definitions.specs.Damage.{TBD}
 use Rattle.definitions.specs.Calls.{Call, outcome}
 use Rattle.history.specs.Tools.{Split, split}
-use Rattle.history.specs.Notes.{Deed, fetches, finds, moves, step-note, deed-at, note, Run-call}
+use Rattle.history.specs.Notes.{Deed, fetches, finds, moves, step-note, deed-at, note-by, note, Run-call}
 use Rattle.history.specs.Notes as Notes
 use Rattle.history.specs.MachineNotes.{fetch, phase-deed, worker-line, worker-deed, machine-note}
 use Rattle.history.specs.Machine.{Memory, Then, then-39, then-43, then-48, then-52, then-34, then-total-34, Phase, line-37, line-39, line-41, line-43, line-45, line-46, line-48, line-50, line-51, line-52, line-5, line-6, line-32, line-34, total-32, total-34, closing, line-20, line-21, line-22, helped-item, line-number, Worker, idle, busy, Catalogue, Move, refused, stepping, move, reply}
@@ -193,11 +193,11 @@ pub note-same : (ws : List ℕ) (s : Catalogue) → Words-image ws s → Few-ste
 note-same ws s U F x t = at x (every-call ws s U F x t .answer-is)
   where
     at : (x : Call) → outcome ws x .answer ≡ reply s x → note ws x ≡ machine-note s x
-    at (Call.make p m n q c) e = unfold note machine-note in refl
-    at (Call.register v z) e = unfold note machine-note in rw e
-    at (Call.v-read w i) e = unfold note machine-note in rw e
-    at (Call.v-cas w i x y) e = unfold note machine-note in rw e
-    at (Call.take-snapshot w) e = unfold note machine-note in rw e
-    at (Call.read-snapshot w i h) e = unfold note machine-note in rw e
-    at (Call.total w q h) e = unfold note machine-note in rw e
-    at (Call.step w) e = unfold note machine-note in rw e (step-same (cells-of ws) s (U .image) F w)
+    at (Call.make p m n q c) e = unfold note-by machine-note in refl
+    at (Call.register v z) e = unfold note-by machine-note in rw e
+    at (Call.v-read w i) e = unfold note-by machine-note in rw e
+    at (Call.v-cas w i x y) e = unfold note-by machine-note in rw e
+    at (Call.take-snapshot w) e = unfold note-by machine-note in rw e
+    at (Call.read-snapshot w i h) e = unfold note-by machine-note in rw e
+    at (Call.total w q h) e = unfold note-by machine-note in rw e
+    at (Call.step w) e = unfold note-by machine-note in rw e (step-same (cells-of ws) s (U .image) F w)

@@ -41,7 +41,7 @@ fn model_starts(memory: &mut [usize], call: Call, lent: usize, worker: usize) ->
         5 => model_operations::starts::take_snapshot(memory, lent, worker),
         6 => model_operations::starts::read_snapshot(memory, lent, worker, size_of(call.b), size_of(call.c)),
         7 => model_operations::starts::total(memory, lent, worker, size_of(call.b), size_of(call.c)),
-        _ => model_operations::steps::step(memory, lent, worker),
+        _ => model_operations::stepping::step(memory, lent, worker),
     }
 }
 
