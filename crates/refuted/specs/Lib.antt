@@ -1,0 +1,10 @@
+pub mod Catalogues
+pub mod Wrong
+pub mod Tests
+pub mod AnyOrder
+pub mod Unchanged
+pub mod ReadLaws
+pub mod Runs
+pub mod Hollow
+pub mod Errors
+pub mod All
