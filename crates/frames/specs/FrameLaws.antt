@@ -85,6 +85,24 @@ four-digits a b c d h =
     omega
     (arith, first-digit a (all-digits (b ∷ c ∷ d ∷ [])) h, first-digit b (all-digits (c ∷ d ∷ [])) h₁, first-digit c (all-digits (d ∷ [])) h₂, first-digit d true h₃)
 
+-- an argument is a number of 32 bits, whatever the bytes
+digit-at-most : (b : ℕ) → digit b ≤ no-digit
+digit-at-most b = by-test (ltb (digit b) 16) refl
+  where
+  by-test : (t : Bool) → ltb (digit b) 16 ≡ t → digit b ≤ no-digit
+  by-test true e = omega (arith, ltb-true (digit b) 16 e)
+  by-test false e = omega (arith, digit-known b e)
+
+four-fit : (l : List ℕ) → number (take 4 l) < 4294967296
+four-fit [] = omega arith
+four-fit (a ∷ []) = omega (arith, digit-at-most a)
+four-fit (a ∷ b ∷ []) = omega (arith, digit-at-most a, digit-at-most b)
+four-fit (a ∷ b ∷ c ∷ []) = omega (arith, digit-at-most a, digit-at-most b, digit-at-most c)
+four-fit (a ∷ b ∷ c ∷ d ∷ l) = omega (arith, digit-at-most a, digit-at-most b, digit-at-most c, digit-at-most d)
+
+pub argument-fits : (line : List ℕ) (k : ℕ) → argument line k < 4294967296
+argument-fits line k = four-fit (drop (2 + 4 * k) line)
+
 -- the first two and the first four bytes, written out
 pub taken-two : (l : List ℕ) → 2 ≤ length l → take 2 l ≡ getD l 0 0 ∷ getD l 1 0 ∷ []
 taken-two (a ∷ b ∷ l) h = refl

@@ -45,8 +45,11 @@ size-of (Call.read-snapshot w i h) = 0
 size-of (Call.total w q h) = 0
 size-of (Call.step w) = 0
 
+pub typed-size : (x : Call) → size-of x < 4294967296 → Typed x
+typed-size x b v s e = subst (λ (y : Call). size-of y < 4294967296) e b
+
 pub sized-call : (ws : List ℕ) (x : Call) → size-of x < 4294967296 → is-make x ≡ false → Run-call ws x
-sized-call ws x b = no-make-call ws x (λ v s e. subst (λ (y : Call). size-of y < 4294967296) e b)
+sized-call ws x b = no-make-call ws x (typed-size x b)
 
 -- The words are the image of the machine's state.
 pub record Words-image (ws : List ℕ) (s : Catalogue) : Type 0 where

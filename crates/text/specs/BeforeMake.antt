@@ -68,8 +68,9 @@ refused-make ws p m n q c h =
   either false no-make made e h = absurd (h e)
 
 -- so until a make is accepted the words stay zero, and no call but make answers anything but 2
-pub until-made : (n : ℕ) (k : Call) → (outcome (zeros n) k .answer .code ≡ 2 → ⊥) → outcome (zeros n) k .words ≡ zeros n
-until-made n (make p m k q c) h = ap (λ (r : Result). r .words) (refused-make (zeros n) p m k q c h)
+pub until-made : (n : ℕ) (k : Call) → ((p m l q c : ℕ) → k ≡ make p m l q c → outcome (zeros n) k .answer .code ≡ 2 → ⊥)
+    → outcome (zeros n) k .words ≡ zeros n
+until-made n (make p m l q c) h = ap (λ (r : Result). r .words) (refused-make (zeros n) p m l q c (h p m l q c refl))
 until-made n (register v s) h = ap (λ (r : Result). r .words) (before-any-make n (register v s) refl)
 until-made n (v-read w i) h = ap (λ (r : Result). r .words) (before-any-make n (v-read w i) refl)
 until-made n (v-cas w i o k) h = ap (λ (r : Result). r .words) (before-any-make n (v-cas w i o k) refl)
