@@ -65,7 +65,7 @@ enum operation { IDLE, VREAD, VCAS, TAKE_SNAPSHOT, READ_SNAPSHOT, TOTAL };
 /* Where each operation begins; a total begins at its first item, or at the closing step if there is none. */
 enum { VREAD_BEGINS = 1, VCAS_BEGINS = 6, TAKE_SNAPSHOT_BEGINS = 23, READ_SNAPSHOT_BEGINS = 25, TOTAL_ITEM_BEGINS = 30, TOTAL_CLOSES = 35 };
 
-/* Column `kept`: the words of the record, besides the arguments, that a phase has in use. */
+/* Column `kept`: the words of the record, besides the arguments, that a phase has in use, at a start as at a step. */
 enum kept { KEPT_NODE = 1, KEPT_NEW = 2, KEPT_SEEN = 4 };
 
 /* Column `node_words`: the words of nodes that a step has in use. */
@@ -97,7 +97,7 @@ const struct phase_row phase_rows[PHASES] = {
     [21] = {VCAS, 22, 0, KEPT_NODE | KEPT_SEEN, ITS_STAMP, 22, 0},
     [22] = {VCAS, 52, 1, 0, NO_WORDS, 0, 0},
     [23] = {TAKE_SNAPSHOT, 5, 0, 0, NO_WORDS, 24, 0},
-    [24] = {TAKE_SNAPSHOT, 6, 1, KEPT_SEEN, NO_WORDS, 0, 0},
+    [24] = {TAKE_SNAPSHOT, 6, 1, 0, NO_WORDS, 0, 0},
     [25] = {READ_SNAPSHOT, 32, 0, 0, NO_WORDS, 26, 0},
     [26] = {READ_SNAPSHOT, 20, 0, KEPT_NODE, ITS_STAMP, 27, 29},
     [27] = {READ_SNAPSHOT, 21, 0, KEPT_NODE, NO_WORDS, 28, 0},
@@ -117,6 +117,12 @@ static bool inside_an_item(const struct phase_row *row) {
 }
 
 /* ---- Damaged: a word this call uses is outside its range ---- */
+
+/*
+ * Four points follow document 01's own words and not docs/FIELDS.md: 'a step count below 5,121 before a step' and 'the number read at 5 below
+ * C when 6 runs' are tests of a step and of no start (before_a_step_damaged); 'stamps at most the counter or TBD' holds for a birth stamp as for a node's
+ * (stamp_outside); and register, which has no line, uses of the nodes 'the first node given back' alone (first_given_back_damaged).
+ */
 
 static bool outside(uint32_t number, uint32_t least, uint32_t most) {
   return number < least || number > most;
@@ -166,21 +172,30 @@ static bool arguments_damaged(const struct header *header, const struct worker *
 static bool kept_words_damaged(const struct header *header, const struct worker *worker, const struct phase_row *row) {
   if (row->kept & KEPT_NODE && worker->node >= header->used) return true;
   if (row->kept & KEPT_NEW && worker->new_node >= header->used) return true;
-  if (!(row->kept & KEPT_SEEN)) return false;
-  if (row->line == 6) return worker->seen >= header->counter_limit; /* line 6 may store one more */
-  return worker->seen > header->counter;
+  return row->kept & KEPT_SEEN && worker->seen > header->counter;
 }
 
 static bool worker_damaged(const struct header *header, const struct worker *worker) {
   if (worker->phase >= PHASES) return true;
   const struct phase_row *row = &phase_rows[worker->phase];
   if (row->operation == IDLE) return false; /* an idle worker's other words are not in use */
-  if (worker->steps >= 5121) return true;
   return arguments_damaged(header, worker, row) || kept_words_damaged(header, worker, row);
 }
 
+/* Of a worker whose phase is known, before a step alone. */
+static bool before_a_step_damaged(const struct header *header, const struct worker *worker) {
+  const struct phase_row *row = &phase_rows[worker->phase];
+  if (row->operation == IDLE) return false; /* no step comes */
+  if (worker->steps >= 5121) return true;
+  return row->line == 6 && worker->seen >= header->counter_limit; /* line 6 may store one more */
+}
+
+static bool stamp_outside(const struct header *header, uint32_t stamp) {
+  return stamp > header->counter && stamp != TBD;
+}
+
 static bool item_damaged(const struct header *header, const struct item *item) {
-  return item->head >= header->used || item->birth > header->counter;
+  return item->head >= header->used || stamp_outside(header, item->birth);
 }
 
 static bool value_damaged(const struct header *header, const struct node *node) {
@@ -192,11 +207,17 @@ static bool older_damaged(const struct header *header, const struct node *node) 
 }
 
 static bool stamp_damaged(const struct header *header, const struct node *node) {
-  return node->stamp > header->counter && node->stamp != TBD;
+  return stamp_outside(header, node->stamp);
 }
 
 static bool node_damaged(const struct header *header, const struct node *node) {
   return value_damaged(header, node) || older_damaged(header, node) || stamp_damaged(header, node);
+}
+
+/* Register, 45 and 50 use the first node given back, where one waits. */
+static bool first_given_back_damaged(struct catalogue catalogue) {
+  const struct header *header = catalogue.header;
+  return header->given_back != 0 && node_damaged(header, &catalogue.nodes[header->given_back - 1]);
 }
 
 /* Line 34 uses the stamp, which H made valid, then the older node where it goes on and the value where it does not. */
@@ -255,7 +276,7 @@ static struct answer register_item(struct catalogue catalogue, uint32_t value, u
   if (value >= header->projects) return refused(7);
   if (header->items == header->items_limit) return refused(10);
   if (no_node_left(header)) return refused(11);
-  if (node_damaged(header, node_to_take(catalogue))) return refused(2);
+  if (first_given_back_damaged(catalogue)) return refused(2);
   const uint32_t number = header->items;
   struct item *item = &catalogue.items[number];
   item->head = take_node(catalogue, (struct node){.value = value, .older = 0, .stamp = header->counter});
@@ -453,7 +474,7 @@ static struct answer run_line(const struct running *running) {
   }
 }
 
-/* The node words that the step's line reads or writes, and at 45 and 50 the first node given back. */
+/* The node words that the step's line reads or writes (line 45 the node it takes, also one never used), and at 45 and 50 the first node given back. */
 static bool node_words_damaged(const struct running *running) {
   const struct header *header = running->catalogue.header;
   const struct worker *worker = running->worker;
@@ -464,7 +485,7 @@ static bool node_words_damaged(const struct running *running) {
   case NODE_TAKEN: return !no_node_left(header) && node_damaged(header, node_to_take(running->catalogue));
   case NODES_GIVEN:
     if (older_damaged(header, &nodes[worker->new_node])) return true;
-    return header->given_back != 0 && node_damaged(header, &nodes[header->given_back - 1]);
+    return first_given_back_damaged(running->catalogue);
   case NODE_TESTED: return tested_node_damaged(header, node_of(running), worker->handle);
   default: return false;
   }
@@ -474,7 +495,7 @@ static struct answer step(struct catalogue catalogue, uint32_t number) {
   const struct header *header = catalogue.header;
   if (number >= header->workers) return refused(3); /* before any record is looked at */
   struct worker *worker = &catalogue.workers[number];
-  if (worker_damaged(header, worker)) return refused(2); /* right after 3 */
+  if (worker_damaged(header, worker) || before_a_step_damaged(header, worker)) return refused(2); /* right after 3 */
   const struct phase_row *row = &phase_rows[worker->phase];
   if (row->operation == IDLE) return refused(5);
   struct item *item = inside_an_item(row) ? &catalogue.items[worker->item] : NULL;

@@ -1,6 +1,7 @@
 /*
  * A second implementation of document 01 over the same words, in C: what the proved archive is compared with. It is written from document
- * 01 and docs/FIELDS.md, in the reader's order of those pages, and shares nothing with the proved code but the header's numbers.
+ * 01 and docs/FIELDS.md, in the reader's order of those pages, and shares nothing with the proved code but the header's numbers. On what is damaged,
+ * document 01's words decide; from docs/FIELDS.md it has where the words stand and which of them a phase still keeps.
  */
 #ifndef GORAVESHA_ORACLE_H
 #define GORAVESHA_ORACLE_H

@@ -57,7 +57,7 @@ static uint32_t within(struct draw *draw, uint32_t limit) { return limit == 0 ? 
 static void worker_in_range(uint32_t *worker, const uint32_t *header, struct draw *draw) {
   uint32_t items = header[6], used = header[7], counter = header[5], noted = draw_below(draw, items + 1);
   worker[0] = draw_once_in(draw, 4) ? 0 : draw_below(draw, PHASES);
-  worker[1] = draw_once_in(draw, 4) ? 5121 - draw_below(draw, 3) : draw_below(draw, 20);
+  worker[1] = draw_once_in(draw, 4) ? 5119 + draw_below(draw, 3) : draw_below(draw, 20);
   worker[2] = within(draw, items);
   worker[3] = within(draw, header[3]);
   worker[4] = within(draw, header[3]);
@@ -70,7 +70,7 @@ static void worker_in_range(uint32_t *worker, const uint32_t *header, struct dra
   worker[11] = draw_once_in(draw, 4) ? UINT32_MAX - draw_below(draw, 2) : draw_word(draw);
   worker[12] = draw_below(draw, 257);
   if (worker[0] >= 30) worker[2] = worker[0] == 35 ? draw_below(draw, noted + 1) : within(draw, noted);
-  if (worker[0] == 24) worker[10] = within(draw, header[4]);
+  if (worker[0] == 24) worker[10] = draw_once_in(draw, 6) ? header[4] : within(draw, header[4]);
 }
 
 void table_in_range(struct table *table, struct draw *draw) {
@@ -88,13 +88,14 @@ void table_in_range(struct table *table, struct draw *draw) {
   for (uint32_t w = 0; w < words[0]; w++, record += 16) worker_in_range(record, words, draw);
   for (uint32_t i = 0; i < words[1]; i++, record += 4) {
     record[0] = within(draw, words[7]);
-    record[1] = draw_below(draw, words[5] + 1);
+    record[1] = draw_once_in(draw, 10) ? TBD : draw_below(draw, words[5] + 1);
     record[2] = draw_once_in(draw, 2) ? draw_word(draw) : UINT32_MAX;
   }
   for (uint32_t n = 0; n < words[2]; n++, record += 3) {
     record[0] = within(draw, words[3]);
     record[1] = draw_below(draw, words[7] + 1);
     record[2] = draw_once_in(draw, 5) ? TBD : draw_below(draw, words[5] + 1);
+    if (n >= words[7] && draw_once_in(draw, 6)) record[draw_below(draw, 3)] = draw_word(draw);
   }
 }
 

@@ -31,7 +31,8 @@ static inline int draw_once_in(struct draw *draw, uint32_t n) { return draw_belo
 
 /* A fresh catalogue, then a run of calls from make, by the oracle alone. Once in so many the sizes are the largest. */
 void table_of_a_run(struct table *table, struct draw *draw, uint32_t large_once_in);
-/* Every word within its range, but of no run. */
+/* Every word within its range, but of no run; and now and then words that some calls test and others do not: a step count of 5,121 or more, at line 6
+ * a number read that is C, a node never used that is damaged; and a birth stamp of TBD. */
 void table_in_range(struct table *table, struct draw *draw);
 /* Words drawn at random, with a taste for limits. */
 void table_at_random(struct table *table, struct draw *draw);

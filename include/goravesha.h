@@ -62,7 +62,7 @@ uint32_t goravesha_make(uint32_t *words, size_t count, uint32_t workers, uint32_
 
 /*
  * A new item, charged to project `value`, of `size` MiB; the answer's value is its number. It takes a node and stamps it with the present
- * counter. Refusals: 2, 7, 10, 11, 2 (the node taken).
+ * counter. Refusals: 2, 7, 10, 11, 2 (the first node given back, where one waits).
  */
 uint32_t goravesha_register(uint32_t *words, size_t count, uint32_t value, uint32_t size, goravesha_answer *answer);
 

@@ -63,7 +63,6 @@ static inline struct node *nodes_at(uint32_t *words) { return (struct node *)(wo
 static inline uint64_t sum_of(const struct worker *w) { return (uint64_t)w->sum_high << 32 | w->sum_low; }
 
 static inline int running_damaged(const struct header *h, const struct worker *w, struct row row) {
-  if (w->steps > 5120) return 1;
   switch (row.operation) {
     case VREAD: if (w->item >= h->items) return 1; break;
     case VCAS: if (w->item >= h->items || w->old >= h->projects || w->new >= h->projects) return 1; break;
@@ -75,16 +74,15 @@ static inline int running_damaged(const struct header *h, const struct worker *w
   }
   if ((row.keeps & NODE) && w->node >= h->used) return 1;
   if ((row.keeps & NEW_NODE) && w->new_node >= h->used) return 1;
-  if (row.line == 22 && w->seen > h->counter) return 1;
-  return row.line == 6 && w->seen >= h->counter_limit;
+  return row.line == 22 && w->seen > h->counter;
 }
 
 static inline int worker_damaged(const struct header *h, const struct worker *w) {
   return w->phase > 35 || (w->phase != 0 && running_damaged(h, w, rows[w->phase]));
 }
 
-static inline int item_damaged(const struct header *h, const struct item *i) { return i->head >= h->used || i->birth > h->counter; }
 static inline int stamp_damaged(const struct header *h, uint32_t stamp) { return stamp > h->counter && stamp != TBD; }
+static inline int item_damaged(const struct header *h, const struct item *i) { return i->head >= h->used || stamp_damaged(h, i->birth); }
 static inline int node_damaged(const struct header *h, const struct node *n) {
   return n->value >= h->projects || n->older > h->used || stamp_damaged(h, n->stamp);
 }
@@ -126,7 +124,7 @@ uint32_t twin_register(uint32_t *words, size_t count, uint32_t value, uint32_t s
   uint32_t number = next_node(h);
   if (number == h->nodes_limit) return refuse(answer, 11);
   struct node *taken = nodes_at(words) + number;
-  if (node_damaged(h, taken)) return refuse(answer, 2);
+  if (h->given_back != 0 && node_damaged(h, taken)) return refuse(answer, 2);
   take(h, taken);
   *taken = (struct node){value, 0, h->counter};
   struct item *item = item_at(words, h->items);
@@ -233,7 +231,8 @@ uint32_t twin_step(uint32_t *words, size_t count, uint32_t worker, goravesha_ans
   if (w->phase > 35) return refuse(answer, 2);
   if (w->phase == 0) return refuse(answer, 5);
   const struct row row = rows[w->phase];
-  if (running_damaged(h, w, row)) return refuse(answer, 2);
+  if (w->steps > 5120 || running_damaged(h, w, row)) return refuse(answer, 2);
+  if (row.line == 6 && w->seen >= h->counter_limit) return refuse(answer, 2);
   struct item *item = item_at(words, w->item);
   if (row.operation != TAKE_SNAPSHOT && row.line != 0 && item_damaged(h, item)) return refuse(answer, 2);
   struct node *nodes = nodes_at(words), *node = nodes + w->node;

@@ -10,7 +10,7 @@ use Rattle.definitions.specs.declared.PhaseRow.{PhaseRow}
 use Rattle.definitions.specs.Cells.{Cell, Cells, _≔_, workers, items-limit, nodes-limit, projects, counter-limit, counter, items, used, given-back, phase, steps, item, old, new, handle, project, noted, node, new-node, seen, sum-low, sum-high, head, birth, size, value, older, stamp}
 use Rattle.definitions.specs.Answers.{Outcome, unless, _⇒_, refused, ends-with}
 use Rattle.definitions.specs.Phases.{row-of, table}
-use Rattle.definitions.specs.Damage.{bad-item, bad-value, bad-handle, inside-item, keeps-node, keeps-new-node, arguments-damaged, kept-damaged, running-damaged, worker-damaged, item-damaged, node-damaged, older-damaged}
+use Rattle.definitions.specs.Damage.{bad-item, bad-value, bad-handle, inside-item, keeps-node, keeps-new-node, arguments-damaged, kept-damaged, running-damaged, worker-damaged, step-damaged, item-damaged, node-damaged, first-damaged, older-damaged}
 use Rattle.definitions.specs.Lines.{Line, line, lines, line-of-phase, idle, fetch, help-20, help-21, help-22, fetch-head, line-20, line-21, line-22, line-39, line-43, line-45, line-46, line-48, line-50, line-52, line-5, line-6, line-34, total-32, total-34, closing, no-node, node-to-take, taking, no-words, its-value, taken-node, returned-node, tested-node}
 use Rattle.definitions.specs.Calls.{Call, no-worker, busy, free-worker, sound-item, registering, starting-v-read, starting-v-cas, starting-take-snapshot, starting-read-snapshot, starting-total, stepping}
 use Rattle.cells.specs.Stands.{Stands}
@@ -33,10 +33,13 @@ module _ (p m n : ℕ) (f g : Cells) (H : Header-in p m n f) (A : (c : Cell) →
   module _ (w : ℕ) (l : w < p) where
     worker-same : worker-damaged g w ≡ worker-damaged f w
     worker-same = unfold running-damaged arguments-damaged kept-damaged in
-        rw (A (phase w) l, A (steps w) l, A (item w) l, A (old w) l, A (new w) l, A (handle w) l, A (project w) l, A (noted w) l, A (node w) l,
+        rw (A (phase w) l, A (item w) l, A (old w) l, A (new w) l, A (handle w) l, A (project w) l, A (noted w) l, A (node w) l,
             A (new-node w) l, A (seen w) l,
-        A (sum-low w) l, A (sum-high w) l, A items (omega arith), A projects (omega arith), A counter (omega arith), A used (omega arith),
-            A counter-limit (omega arith))
+        A (sum-low w) l, A (sum-high w) l, A items (omega arith), A projects (omega arith), A counter (omega arith), A used (omega arith))
+
+    -- and what a step alone tests of it
+    before-step-same : step-damaged g w ≡ step-damaged f w
+    before-step-same = rw (A (phase w) l, A (steps w) l, A (seen w) l, A counter-limit (omega arith))
 
     -- a line on two functions that agree: its test of node words and what it does are the same
     pub record Same-line (r : PhaseRow) (x : Line) : Type 0 where
@@ -159,7 +162,7 @@ module _ (p m n : ℕ) (f g : Cells) (H : Header-in p m n f) (A : (c : Cell) →
       at true e = refl
       at false e = node-damaged-same (node-to-take f) (taken-in p m n f H e)
 
-  first-words : not (eqb (g given-back) 0) && node-damaged g (g given-back - 1) ≡ not (eqb (f given-back) 0) && node-damaged f (f given-back - 1)
+  first-words : first-damaged g ≡ first-damaged f
   first-words = ap (λ (x : ℕ). not (eqb x 0) && node-damaged g (x - 1)) (A given-back (omega arith)) ∙ at (eqb (f given-back) 0) refl
     where
       at : (b : Bool) → eqb (f given-back) 0 ≡ b → not b && node-damaged g (f given-back - 1) ≡ not b && node-damaged f (f given-back - 1)
@@ -237,8 +240,7 @@ module _ (p m n : ℕ) (f g : Cells) (H : Header-in p m n f) (A : (c : Cell) →
       or-same (bad-value f v) (bad-value g v) (refused 7) (value-same v)
       (λ a. or-same (leb (f items-limit) (f items)) (leb (g items-limit) (g items)) (refused 10) (rw (A items-limit (omega arith), A items (omega arith)))
         (λ b. or-same (no-node f) (no-node g) (refused 11) no-node-same
-          (λ c. or-same (node-damaged f (node-to-take f)) (node-damaged g (node-to-take g)) (refused 2)
-              (ap (node-damaged g) taken-same ∙ node-damaged-same (node-to-take f) (taken-in p m n f H c))
+          (λ c. or-same (first-damaged f) (first-damaged g) (refused 2) first-words
             (λ d. rw (taking-same, taken-same, A items (omega arith), A counter (omega arith))))))
 
   total-same : (w q h : ℕ) → starting-total g w q h ≡ starting-total f w q h
@@ -284,7 +286,8 @@ module _ (p m n : ℕ) (f g : Cells) (H : Header-in p m n f) (A : (c : Cell) →
       or-same (no-worker f w) (no-worker g w) (refused 3) (no-worker-same w)
       (λ a. let l : w < p = worker-in w a in
         or-same (worker-damaged f w) (worker-damaged g w) (refused 2) (worker-same w l)
-        (λ b. ap (after-worker g w) (A (phase w) l) ∙ after-same w l b))
+        (λ b. or-same (step-damaged f w) (step-damaged g w) (refused 2) (before-step-same w l)
+            (λ c. ap (after-worker g w) (A (phase w) l) ∙ after-same w l b)))
 
   pub call-same : (x : Call) → comes-to g x ≡ comes-to f x
   call-same (Call.make a b c d e) = refl

@@ -11,7 +11,7 @@ use Rattle.definitions.specs.declared.PhaseRow.{PhaseRow}
 use Rattle.definitions.specs.Cells.{project, handle, noted, Cells, Assignment, _≔_, workers, items-limit, nodes-limit, counter, items, used, given-back, phase, steps, item, old, new, node, new-node, head, birth, size, value, older, stamp, record-of, cleared}
 use Rattle.definitions.specs.Answers.{Outcome, Refusal, unless, _⇒_, accepts}
 use Rattle.definitions.specs.Phases.{row-of, table, closing-phase, total-start, v-read-start, v-cas-start, take-snapshot-start, read-snapshot-start}
-use Rattle.definitions.specs.Damage.{kept-tests, sum, inside-item, bad-handle, any-of, any-from, bad-item, bad-value, keeps-node, keeps-new-node, arguments-damaged, kept-damaged, running-damaged, worker-damaged, item-damaged, node-damaged}
+use Rattle.definitions.specs.Damage.{kept-tests, sum, inside-item, bad-handle, any-of, any-from, bad-item, bad-value, keeps-node, keeps-new-node, arguments-damaged, kept-damaged, running-damaged, worker-damaged, step-damaged, item-damaged, first-damaged}
 use Rattle.definitions.specs.Lines.{Line, line, lines, line-of-phase, idle, fetch, help-20, help-21, help-22, fetch-head, line-20, line-21, line-22, line-39, line-43, line-45, line-46, line-48, line-50, line-52, line-5, line-6, line-34, total-32, total-34, closing, no-node, node-to-take, taking, succeeds-22, succeeds-46, counter-full, succeeds-6, too-new, to-older}
 use Rattle.definitions.specs.Calls.{Call, no-worker, busy, sound-item, registering, starting-v-read, starting-v-cas, starting-take-snapshot, starting-read-snapshot, starting-total, stepping}
 use Rattle.cells.specs.Update.{Proper, record-proper}
@@ -75,12 +75,9 @@ arguments-in r f w e t = at (eqb (r .operation) 1) (eqb (r .operation) 2) (eqb (
 pub kept-in : (r : PhaseRow) (f : Cells) (w : ℕ) → running-damaged r f w ≡ false → Kept-in r f w
 unfolding running-damaged kept-damaged
 kept-in r f w e = record {
-  node-in = λ t. leb-false _ _ (where-asked (keeps-node r) _ (none-at (kept-tests r f w) 0 (none-at parts 2 e)) t);
-  new-node-in = λ t. leb-false _ _ (where-asked (keeps-new-node r) _ (none-at (kept-tests r f w) 1 (none-at parts 2 e)) t);
-  item-in = arguments-in r f w (none-at parts 1 e) }
-  where
-    parts : List Bool
-    parts = ltb 5120 (f (steps w)) ∷ arguments-damaged r f w ∷ kept-damaged r f w ∷ []
+  node-in = λ t. leb-false _ _ (where-asked (keeps-node r) _ (none-at (kept-tests r f w) 0 (second-false (arguments-damaged r f w) _ e)) t);
+  new-node-in = λ t. leb-false _ _ (where-asked (keeps-new-node r) _ (none-at (kept-tests r f w) 1 (second-false (arguments-damaged r f w) _ e)) t);
+  item-in = arguments-in r f w (first-false (arguments-damaged r f w) _ e) }
 
 -- A catalogue's header, as far as it says which cells stand.
 pub record Header-in (p m n : ℕ) (f : Cells) : Type 0 where
@@ -240,18 +237,18 @@ module _ (p m n : ℕ) (f : Cells) (H : Header-in p m n f) where
   unfolding stepping
   step-fine w =
       unless-fine
-      (no-worker f w ⇒ 3 ∷ worker-damaged f w ⇒ 2 ∷ eqb (f (phase w)) 0 ⇒ 5
+      (no-worker f w ⇒ 3 ∷ worker-damaged f w ⇒ 2 ∷ step-damaged f w ⇒ 2 ∷ eqb (f (phase w)) 0 ⇒ 5
       ∷ (inside-item (row-of (f (phase w))) && item-damaged f (f (item w))) ⇒ 2 ∷ line-of-phase (f (phase w)) .damaged f w ⇒ 2 ∷ [])
       (line-of-phase (f (phase w)) .does f w)
       (λ k. line-fine w (worker-in w (k .0)) (f (phase w)) (ltb-false 35 (f (phase w)) (first-false (ltb 35 (f (phase w))) (known w) (k .1 .0)))
         (kept-in (row-of (f (phase w))) f w
         (where-asked (not (eqb (f (phase w)) 0)) (running-damaged (row-of (f (phase w))) f w) (second-false (ltb 35 (f (phase w))) (known w) (k .1 .0))
-            (ap not (k .1 .1 .0)))))
+            (ap not (k .1 .1 .1 .0)))))
 
   register-fine : (v z : ℕ) → Fine (registering f v z)
   unfolding registering
   register-fine v z =
-      unless-fine (bad-value f v ⇒ 7 ∷ leb (f items-limit) (f items) ⇒ 10 ∷ no-node f ⇒ 11 ∷ node-damaged f (node-to-take f) ⇒ 2 ∷ [])
+      unless-fine (bad-value f v ⇒ 7 ∷ leb (f items-limit) (f items) ⇒ 10 ∷ no-node f ⇒ 11 ∷ first-damaged f ⇒ 2 ∷ [])
       (accepts (f items) (taking f ++ (value (node-to-take f) ≔ v ∷ older (node-to-take f) ≔ 0 ∷ stamp (node-to-take f) ≔ f counter
         ∷ head (f items) ≔ node-to-take f ∷ birth (f items) ≔ f counter ∷ size (f items) ≔ z ∷ items ≔ (f items + 1) ∷ [])))
       (λ k. let y : node-to-take f < n = taken-in (k .1 .1 .0) in let i : f items < m =

@@ -5,17 +5,20 @@ use mathlib.Core.List.{List}
 use mathlib.Core.Logic.{_≢_}
 use mathlib.Core.Path.{_≡_}
 use lib.Dec.{eqb}
-use Rattle.definitions.specs.Cells.{Cells, cells-of, workers, items, used, given-back, phase, new-node, head, birth, older, stamp}
+use Rattle.definitions.specs.Cells.{Cells, cells-of, workers, counter, items, used, given-back, phase, new-node, head, birth, older, stamp}
 use Rattle.definitions.specs.Phases.{row-of}
-use Rattle.definitions.specs.Damage.{TBD, header-damaged, worker-damaged, item-damaged, node-damaged, keeps-new-node}
+use Rattle.definitions.specs.Damage.{TBD, header-damaged, worker-damaged, step-damaged, item-damaged, node-damaged, keeps-new-node}
 use Rattle.definitions.specs.Lines.{line-of-phase}
 
--- No word is damaged: of the header, of any worker, item or node ever used, and none that a worker's next line would meet.
+-- No word is damaged: of the header, of any worker, item or node ever used, and none that a worker's next step would meet. And a birth stamp is a
+-- counter value: TBD in its place is no damage, but no register writes it.
 pub record Undamaged (ws : List ℕ) : Type 0 where
   pub header-sound : header-damaged ws ≡ false
   pub worker-sound : (w : ℕ) → w < cells-of ws workers → worker-damaged (cells-of ws) w ≡ false
+  pub step-sound : (w : ℕ) → w < cells-of ws workers → step-damaged (cells-of ws) w ≡ false
   pub line-sound : (w : ℕ) → w < cells-of ws workers → line-of-phase (cells-of ws (phase w)) .damaged (cells-of ws) w ≡ false
   pub item-sound : (i : ℕ) → i < cells-of ws items → item-damaged (cells-of ws) i ≡ false
+  pub birth-sound : (i : ℕ) → i < cells-of ws items → cells-of ws (birth i) ≤ cells-of ws counter
   pub node-sound : (n : ℕ) → n < cells-of ws used → node-damaged (cells-of ws) n ≡ false
 
 -- A link is a node's number plus one, or 0. The link that a link's node has, and the link that is k nodes further.

@@ -1,9 +1,9 @@
 // Lines 43 to 52 of vCAS, but for line 45, which the crate take has.
 use definitions::Answer;
 use endings::{finish, go_on, refuse};
-use tables::damage::node_is_damaged;
+use tables::damage::first_is_damaged;
 use tables::fields::{
-    COUNTER, GIVEN_BACK, HEAD, HEADER_WORDS, ITEM, ITEM_WORDS, NEW, NEW_NODE, NODE, OLD, OLDER, PHASE, PROJECTS, STEPS, USED, VALUE, WORKER_WORDS,
+    GIVEN_BACK, HEAD, HEADER_WORDS, ITEM, ITEM_WORDS, NEW, NEW_NODE, NODE, OLD, OLDER, PHASE, PROJECTS, STEPS, USED, VALUE, WORKER_WORDS,
 };
 use tables::nodes;
 use tables::phases::{LOST, PUBLISHED};
@@ -74,12 +74,7 @@ fn returned_is_damaged(words: &[u32], items_at: usize, nodes_at: usize, w: usize
     if words[USED] < link {
         return true;
     }
-    let back = words[GIVEN_BACK];
-    if back == 0 {
-        return false;
-    }
-    let first = (back - 1) as usize;
-    node_is_damaged(&words[nodes_at..], first, words[PROJECTS], words[USED], words[COUNTER])
+    first_is_damaged(words, nodes_at)
 }
 
 // Line 50: the new node is given back.

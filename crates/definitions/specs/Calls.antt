@@ -9,7 +9,7 @@ use Rattle.definitions.specs.declared.PhaseRow.{PhaseRow}
 use Rattle.definitions.specs.Cells.{Cells, Assignment, _≔_, workers, items-limit, projects, counter, items, phase, item, value, older, stamp, head, birth, size, needed, items-at, nodes-at, cells-of, written, record-of}
 use Rattle.definitions.specs.Answers.{Outcome, Refusal, _⇒_, refusal, accepted, refused, unless, accepts}
 use Rattle.definitions.specs.Phases.{row-of, v-read-start, v-cas-start, take-snapshot-start, read-snapshot-start, total-start, closing-phase}
-use Rattle.definitions.specs.Damage.{any-of, sizes-outside, header-damaged, worker-damaged, inside-item, item-damaged, node-damaged, bad-value, bad-handle, bad-item}
+use Rattle.definitions.specs.Damage.{any-of, sizes-outside, header-damaged, worker-damaged, step-damaged, inside-item, item-damaged, first-damaged, bad-value, bad-handle, bad-item}
 use Rattle.definitions.specs.Lines.{Line, no-node, node-to-take, taking, line-of-phase}
 
 pub data Call : Type 0 where
@@ -34,7 +34,8 @@ free-worker m w = no-worker m w ⇒ 3 ∷ worker-damaged m w ⇒ 2 ∷ busy m w 
 abbrev pub sound-item : Cells → ℕ → List Refusal
 sound-item m i = bad-item m i ⇒ 6 ∷ item-damaged m i ⇒ 2 ∷ []
 
--- Register takes a node, stamps it with the present counter, and gives the next item's number.
+-- Register takes a node, stamps it with the present counter, and gives the next item's number. It has no line that uses node words: of the
+-- nodes it uses the first one given back, where one waits, and no word of a node never used.
 abbrev pub registered : Cells → ℕ → ℕ → Outcome
 registered m v s =
     accepts (m items)
@@ -44,7 +45,7 @@ registered m v s =
 
 unfoldable pub registering : Cells → ℕ → ℕ → Outcome
 registering m v s =
-    unless (bad-value m v ⇒ 7 ∷ leb (m items-limit) (m items) ⇒ 10 ∷ no-node m ⇒ 11 ∷ node-damaged m (node-to-take m) ⇒ 2 ∷ []) (registered m v s)
+    unless (bad-value m v ⇒ 7 ∷ leb (m items-limit) (m items) ⇒ 10 ∷ no-node m ⇒ 11 ∷ first-damaged m ⇒ 2 ∷ []) (registered m v s)
 
 -- The starts. Each touches the worker's record alone.
 unfoldable pub starting-v-read : Cells → ℕ → ℕ → Outcome
@@ -67,11 +68,11 @@ starting-total m w q h =
     unless (free-worker m w ++ (bad-value m q ⇒ 7 ∷ bad-handle m h ⇒ 8 ∷ []))
     (accepts 0 (record-of w (cond (eqb (m items) 0) closing-phase total-start) 0 0 0 h q (m items)))
 
--- A step: the worker, its operation's item, the node words of its line, and then the line.
+-- A step: the worker, with the two tests that only a step has, its operation's item, the node words of its line, and then the line.
 unfoldable pub stepping : Cells → ℕ → Outcome
 stepping m w =
     let l = line-of-phase (m (phase w)) in
-    unless (no-worker m w ⇒ 3 ∷ worker-damaged m w ⇒ 2 ∷ eqb (m (phase w)) 0 ⇒ 5
+    unless (no-worker m w ⇒ 3 ∷ worker-damaged m w ⇒ 2 ∷ step-damaged m w ⇒ 2 ∷ eqb (m (phase w)) 0 ⇒ 5
     ∷ (inside-item (row-of (m (phase w))) && item-damaged m (m (item w))) ⇒ 2 ∷ l .damaged m w ⇒ 2 ∷ [])
     (l .does m w)
 

@@ -1,5 +1,5 @@
 -- Damage, word by word: a word that the call uses is outside its range.
-use Prim.Native.Nat.{ℕ, _+_, _*_}
+use Prim.Native.Nat.{ℕ, _+_, _*_, _-_}
 use mathlib.Core.Bool.{Bool, true, false, cond, not, _||_, _&&_}
 use mathlib.Core.List.{List, [], _∷_}
 use lib.Dec.{ltb, leb, eqb}
@@ -40,13 +40,15 @@ header-damaged ws =
     let m = cells-of ws in
     header-damaged-at (length ws) (m workers) (m items-limit) (m nodes-limit) (m projects) (m counter-limit) (m counter) (m items) (m used) (m given-back)
 
--- A value, a node number, a counter value and a handle that are out of range.
+-- A value, a node number, a counter value, a stamp and a handle that are out of range. TBD is a stamp, and no counter value.
 abbrev pub bad-value : Cells → ℕ → Bool
 bad-value m v = leb (m projects) v
 abbrev pub bad-node : Cells → ℕ → Bool
 bad-node m n = leb (m used) n
 abbrev pub bad-time : Cells → ℕ → Bool
 bad-time m t = ltb (m counter) t
+abbrev pub bad-stamp : Cells → ℕ → Bool
+bad-stamp m t = bad-time m t && not (eqb t TBD)
 abbrev pub bad-handle : Cells → ℕ → Bool
 bad-handle m h = leb (m counter) h
 
@@ -76,7 +78,7 @@ arguments-damaged r m w =
     (any-of (total-tests r m w)))))
 
 -- What its lines keep, where it is still read: the node from the line that fetched it to 39, 43, 46 and 34, the new node at 46 and 50,
--- the number read at 21 when 22 runs, and the number read at 5 when 6 runs.
+-- and the number read at 21 at line 22.
 abbrev pub keeps-node : PhaseRow → Bool
 keeps-node r =
     any-of (eqb (r .line) 20 ∷ eqb (r .line) 21 ∷ eqb (r .line) 22 ∷ eqb (r .line) 34 ∷ eqb (r .line) 39 ∷ eqb (r .line) 43 ∷ eqb (r .line) 45 ∷ eqb (r .line) 46 ∷ [])
@@ -86,22 +88,33 @@ keeps-new-node r = eqb (r .line) 46 || eqb (r .line) 50
 abbrev pub kept-tests : PhaseRow → Cells → ℕ → List Bool
 kept-tests r m w =
     (keeps-node r && bad-node m (m (node w))) ∷ (keeps-new-node r && bad-node m (m (new-node w)))
-    ∷ (eqb (r .line) 22 && bad-time m (m (seen w))) ∷ (eqb (r .line) 6 && leb (m counter-limit) (m (seen w))) ∷ []
+    ∷ (eqb (r .line) 22 && bad-time m (m (seen w))) ∷ []
 
 unfoldable pub kept-damaged : PhaseRow → Cells → ℕ → Bool
 kept-damaged r m w = any-of (kept-tests r m w)
 
--- A running record, at the table's entry for its phase; the step count, too, is below 5,121.
+-- A running record, at the table's entry for its phase.
 unfoldable pub running-damaged : PhaseRow → Cells → ℕ → Bool
-running-damaged r m w = any-of (ltb 5120 (m (steps w)) ∷ arguments-damaged r m w ∷ kept-damaged r m w ∷ [])
+running-damaged r m w = arguments-damaged r m w || kept-damaged r m w
 
 -- A worker's record: a phase that is known, and nothing else where it is idle.
 abbrev pub worker-damaged : Cells → ℕ → Bool
 worker-damaged m w = ltb 35 (m (phase w)) || (not (eqb (m (phase w)) 0) && running-damaged (row-of (m (phase w))) m w)
 
--- An item's record. A birth stamp is a counter value and never TBD.
+-- Two tests more, of a running record before a step and of no start: a step count below 5,121, and the number read at 5 below C when 6 runs.
+abbrev pub too-many-steps : Cells → ℕ → Bool
+too-many-steps m w = ltb 5120 (m (steps w))
+abbrev pub beyond-at-6 : PhaseRow → Cells → ℕ → Bool
+beyond-at-6 r m w = eqb (r .line) 6 && leb (m counter-limit) (m (seen w))
+
+abbrev pub before-step : PhaseRow → Cells → ℕ → Bool
+before-step r m w = too-many-steps m w || beyond-at-6 r m w
+abbrev pub step-damaged : Cells → ℕ → Bool
+step-damaged m w = not (eqb (m (phase w)) 0) && before-step (row-of (m (phase w))) m w
+
+-- An item's record: a birth stamp, too, is at most the counter or TBD.
 abbrev pub item-damaged : Cells → ℕ → Bool
-item-damaged m i = bad-node m (m (head i)) || bad-time m (m (birth i))
+item-damaged m i = bad-node m (m (head i)) || bad-stamp m (m (birth i))
 
 -- A node's words. The older node is a number plus one, or 0.
 abbrev pub value-damaged : Cells → ℕ → Bool
@@ -109,6 +122,10 @@ value-damaged m n = bad-value m (m (value n))
 abbrev pub older-damaged : Cells → ℕ → Bool
 older-damaged m n = ltb (m used) (m (older n))
 abbrev pub stamp-damaged : Cells → ℕ → Bool
-stamp-damaged m n = bad-time m (m (stamp n)) && not (eqb (m (stamp n)) TBD)
+stamp-damaged m n = bad-stamp m (m (stamp n))
 abbrev pub node-damaged : Cells → ℕ → Bool
 node-damaged m n = (value-damaged m n || older-damaged m n) || stamp-damaged m n
+
+-- The first node given back, where one waits: register, 45 and 50 use it.
+abbrev pub first-damaged : Cells → Bool
+first-damaged m = not (eqb (m given-back) 0) && node-damaged m (m given-back - 1)

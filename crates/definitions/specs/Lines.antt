@@ -7,7 +7,7 @@ use lib.ListN.{getD}
 use Rattle.definitions.specs.Cells.{Cells, Assignment, _≔_, nodes-limit, counter-limit, counter, used, given-back, phase, item, old, new, handle, project, noted, node, new-node, seen, sum-low, sum-high, head, birth, size, value, older, stamp}
 use Rattle.definitions.specs.Answers.{Outcome, refused, goes-on, answers, ends-with}
 use Rattle.definitions.specs.Phases.{published, lost, total-start, closing-phase}
-use Rattle.definitions.specs.Damage.{TBD, any-of, bad-time, value-damaged, older-damaged, stamp-damaged, node-damaged, sum}
+use Rattle.definitions.specs.Damage.{TBD, any-of, bad-time, value-damaged, older-damaged, stamp-damaged, node-damaged, first-damaged, sum}
 
 -- lines 32, 37, 41 and 51: the item's head is fetched
 unfoldable pub fetch-head : Cells → ℕ → Outcome
@@ -135,12 +135,12 @@ abbrev pub its-stamp : Cells → ℕ → Bool
 its-stamp m w = stamp-damaged m (m (node w))
 abbrev pub its-value : Cells → ℕ → Bool
 its-value m w = value-damaged m (m (node w))
--- line 45 writes the node that it takes
+-- line 45 writes the node that it takes, given back or never used
 abbrev pub taken-node : Cells → ℕ → Bool
 taken-node m w = not (no-node m) && node-damaged m (node-to-take m)
 -- line 50 writes the link of the new node, and uses the first node given back
 abbrev pub returned-node : Cells → ℕ → Bool
-returned-node m w = older-damaged m (m (new-node w)) || (not (eqb (m given-back) 0) && node-damaged m (m given-back - 1))
+returned-node m w = older-damaged m (m (new-node w)) || first-damaged m
 -- line 34 meets no TBD; where it must go on it reads the older node, which must be there, and elsewhere the value
 abbrev pub tested-node : Cells → ℕ → Bool
 tested-node m w =

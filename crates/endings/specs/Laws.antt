@@ -14,7 +14,7 @@ use Rattle.definitions.specs.Promises.{Met}
 use Rattle.definitions.specs.Damage.{bad-time, older-damaged, node-damaged}
 use Rattle.definitions.specs.Lines.{too-new, its-value, tested-node, no-node, node-to-take, taken-node}
 use Rattle.tables.specs.Part.{part, read-part}
-use Rattle.tables.specs.Ranges.{none-of, node-outside}
+use Rattle.tables.specs.Ranges.{none-of}
 use Rattle.endings.specs.Stepped.{node-tested, Has-older, Ready, Can-take}
 
 pub met-if : {a b : ℕ} {ws l : List ℕ} {r : Answer} {t : Bool} {o : Outcome} (other : Outcome) → t ≡ true → Met a b ws o r l → Met a b ws (cond t o other) r l
@@ -49,10 +49,6 @@ older-there a b ws w e h =
     let none = none-of (eqb o 0 ∷ older-damaged m (m (node w)) ∷ []) 0 (and-right h second) in
     let there = eqb-false o 0 none in
     omega (arith, there)
-
--- A node's damage in the node part is its damage in the whole.
-pub outside-is : (a b : ℕ) (ws : List ℕ) (n : ℕ) → node-outside (part ws b) n (getD ws 3 0) (getD ws 7 0) (getD ws 5 0) ≡ node-damaged (cells-at a b ws) n
-outside-is a b ws n = rw (read-part ws b (node-words * n + 0), read-part ws b (node-words * n + 1), read-part ws b (node-words * n + 2))
 
 -- Assignments one after the other.
 pub written-append : (a b : ℕ) (ws : List ℕ) (xs ys : List Assignment) → written a b ws (xs ++ ys) ≡ written a b (written a b ws xs) ys

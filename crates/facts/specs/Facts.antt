@@ -1,6 +1,6 @@
 -- What passed damage tests tell: where everything stands, and what a line may take for granted.
 use Prim.Native.Nat.{ℕ, _+_, _*_, _-_, _<_, _≤_}
-use mathlib.Core.Path.{_≡_, refl, ap, sym, _∙_}
+use mathlib.Core.Path.{_≡_, refl, ap, ap₂, sym, _∙_}
 use mathlib.Core.Bool.{Bool, true, false, false≢true, cond, not, _||_, _&&_}
 use mathlib.Core.List.{List, [], _∷_}
 use lib.Dec.{ltb, leb, eqb}
@@ -11,9 +11,9 @@ use Rattle.definitions.specs.declared.Answer.{Answer}
 use Rattle.definitions.specs.declared.PhaseRow.{PhaseRow}
 use Rattle.definitions.specs.Cells.{node-words, Cells, cells-of, items-at, nodes-at, needed, counter-limit, counter, items, used, given-back, phase, steps, item, old, new, handle, noted, node, new-node, seen}
 use Rattle.definitions.specs.Phases.{row-of}
-use Rattle.definitions.specs.Damage.{any-of, outside, sizes-outside, header-tests, header-damaged-at, header-damaged, bad-item, bad-value, bad-handle, bad-node, inside-item, sum, total-tests, arguments-damaged, keeps-node, keeps-new-node, kept-tests, kept-damaged, running-damaged, worker-damaged, item-damaged}
+use Rattle.definitions.specs.Damage.{any-of, outside, sizes-outside, header-tests, header-damaged-at, header-damaged, bad-item, bad-value, bad-handle, bad-node, inside-item, sum, total-tests, arguments-damaged, keeps-node, keeps-new-node, kept-tests, kept-damaged, running-damaged, worker-damaged, too-many-steps, beyond-at-6, before-step, step-damaged, item-damaged}
 use Rattle.tables.specs.Ranges.{none-of, some-of, neither}
-use Rattle.definitions.specs.Answers.{Outcome, _⇒_, unless}
+use Rattle.definitions.specs.Answers.{Outcome, _⇒_, unless, refused}
 use Rattle.definitions.specs.Lines.{line-of-phase, no-node}
 use Rattle.definitions.specs.Promises.{Met}
 use Rattle.endings.specs.Stepped.{Ready, stepped, Can-take}
@@ -61,26 +61,36 @@ and-false : (s t : Bool) → s ≡ false → (s || t) ≡ false → t ≡ false
 and-false true t e h = absurd (false≢true (sym e))
 and-false false t e h = h
 
+-- What step asks of a running record before its line: its step count and its arguments; and where its line is known: what it keeps, and at line 6 the
+-- number read at 5.
+abbrev pub early : PhaseRow → Cells → ℕ → Bool
+early r m w = too-many-steps m w || arguments-damaged r m w
+abbrev pub late : PhaseRow → Cells → ℕ → Bool
+late r m w = kept-damaged r m w || beyond-at-6 r m w
+
 module _ (r : PhaseRow) (m : Cells) (w : ℕ) where
+  keeps : late r m w ≡ false → kept-damaged r m w ≡ false
+  keeps = none-of (kept-damaged r m w ∷ beyond-at-6 r m w ∷ []) 0
+
   -- The lines at which the record keeps a node, by their place in that list.
-  pub node-kept : (k : ℕ) → kept-damaged r m w ≡ false
+  pub node-kept : (k : ℕ) → late r m w ≡ false
       → getD (eqb (r .line) 20 ∷ eqb (r .line) 21 ∷ eqb (r .line) 22 ∷ eqb (r .line) 34 ∷ eqb (r .line) 39 ∷ eqb (r .line) 43 ∷ eqb (r .line) 45 ∷ eqb (r .line) 46 ∷ []) k false ≡ true
       → m (node w) < m used
   unfolding kept-damaged
   node-kept k e h =
-      let keeps = some-of (eqb (r .line) 20 ∷ eqb (r .line) 21 ∷ eqb (r .line) 22 ∷ eqb (r .line) 34 ∷ eqb (r .line) 39 ∷ eqb (r .line) 43 ∷ eqb (r .line) 45 ∷ eqb (r .line) 46 ∷ []) k h in
-      leb-false (m used) (m (node w)) (and-true (keeps-node r) (bad-node m (m (node w))) keeps (none-of (kept-tests r m w) 0 e))
+      let told = some-of (eqb (r .line) 20 ∷ eqb (r .line) 21 ∷ eqb (r .line) 22 ∷ eqb (r .line) 34 ∷ eqb (r .line) 39 ∷ eqb (r .line) 43 ∷ eqb (r .line) 45 ∷ eqb (r .line) 46 ∷ []) k h in
+      leb-false (m used) (m (node w)) (and-true (keeps-node r) (bad-node m (m (node w))) told (none-of (kept-tests r m w) 0 (keeps e)))
 
-  pub new-node-kept : kept-damaged r m w ≡ false → r .line ≡ 50 → m (new-node w) < m used
+  pub new-node-kept : late r m w ≡ false → r .line ≡ 50 → m (new-node w) < m used
   unfolding kept-damaged
   new-node-kept e h =
-      let keeps = some-of (eqb (r .line) 46 ∷ eqb (r .line) 50 ∷ []) 1 (eq-eqb (r .line) 50 h) in
-      leb-false (m used) (m (new-node w)) (and-true (keeps-new-node r) (bad-node m (m (new-node w))) keeps (none-of (kept-tests r m w) 1 e))
+      let told = some-of (eqb (r .line) 46 ∷ eqb (r .line) 50 ∷ []) 1 (eq-eqb (r .line) 50 h) in
+      leb-false (m used) (m (new-node w)) (and-true (keeps-new-node r) (bad-node m (m (new-node w))) told (none-of (kept-tests r m w) 1 (keeps e)))
 
-  pub seen-kept : kept-damaged r m w ≡ false → r .line ≡ 6 → m (seen w) < m counter-limit
-  unfolding kept-damaged
+  pub seen-kept : late r m w ≡ false → r .line ≡ 6 → m (seen w) < m counter-limit
   seen-kept e h =
-      leb-false (m counter-limit) (m (seen w)) (and-true (eqb (r .line) 6) (leb (m counter-limit) (m (seen w))) (eq-eqb (r .line) 6 h) (none-of (kept-tests r m w) 3 e))
+      leb-false (m counter-limit) (m (seen w))
+      (and-true (eqb (r .line) 6) (leb (m counter-limit) (m (seen w))) (eq-eqb (r .line) 6 h) (none-of (kept-damaged r m w ∷ beyond-at-6 r m w ∷ []) 1 e))
 
   -- Inside an item, the item is registered: by each operation's own tests.
   pub item-there : arguments-damaged r m w ≡ false → (r .operation ≡ 3 → ⊥) → (r .line ≡ 0 → ⊥) → m (item w) < m items
@@ -137,7 +147,7 @@ pub record Busy (w : ℕ) (ws : List ℕ) : Type 0 where
 
 abbrev pub busy-step : Cells → ℕ → Outcome
 busy-step m w =
-    unless ((inside-item (row-of (m (phase w))) && item-damaged m (m (item w))) ⇒ 2 ∷ kept-damaged (row-of (m (phase w))) m w ⇒ 2 ∷ [])
+    unless ((inside-item (row-of (m (phase w))) && item-damaged m (m (item w))) ⇒ 2 ∷ late (row-of (m (phase w))) m w ⇒ 2 ∷ [])
     (stepped (line-of-phase (m (phase w))) m w)
 
 -- Everything has its place, and the step can be counted.
@@ -172,9 +182,18 @@ idle-sound m w h =
     neither (ltb 35 (m (phase w))) (not (eqb (m (phase w)) 0) && running-damaged (row-of (m (phase w))) m w)
     (le-ltb 35 (m (phase w)) (omega (arith, h))) (ap (λ (b : Bool). not b && running-damaged (row-of (m (phase w))) m w) (eq-eqb (m (phase w)) 0 h))
 
--- What step asks of a running record before its line: its step count and its arguments.
-abbrev pub early : PhaseRow → Cells → ℕ → Bool
-early r m w = ltb 5120 (m (steps w)) || arguments-damaged r m w
+-- A step asks nothing more of an idle worker.
+pub idle-steps : (m : Cells) (w : ℕ) → m (phase w) ≡ 0 → step-damaged m w ≡ false
+idle-steps m w h = ap (λ (b : Bool). not b && before-step (row-of (m (phase w))) m w) (eq-eqb (m (phase w)) 0 h)
+
+-- The tests of a step, in the order of the definitions and in the code's.
+regrouped : (count arguments kept six : Bool) → ((arguments || kept) || (count || six)) ≡ ((count || arguments) || (kept || six))
+regrouped true true kept six = refl
+regrouped true false true six = refl
+regrouped true false false six = refl
+regrouped false true kept six = refl
+regrouped false false true six = refl
+regrouped false false false six = refl
 
 module _ (m : Cells) (w : ℕ) (known : m (phase w) ≤ 35) (busy : m (phase w) ≡ 0 → ⊥) where
   running-is : worker-damaged m w ≡ running-damaged (row-of (m (phase w))) m w
@@ -182,14 +201,21 @@ module _ (m : Cells) (w : ℕ) (known : m (phase w) ≤ 35) (busy : m (phase w) 
       ap (λ (b : Bool). b || (not (eqb (m (phase w)) 0) && running-damaged (row-of (m (phase w))) m w)) (le-ltb 35 (m (phase w)) known)
       ∙ ap (λ (b : Bool). not b && running-damaged (row-of (m (phase w))) m w) (ne-eqb (m (phase w)) 0 busy)
 
-  -- Where that is damaged, the worker is; where it is not, the worker is damaged in what it keeps.
-  pub early-damaged : early (row-of (m (phase w))) m w ≡ true → worker-damaged m w ≡ true
-  unfolding running-damaged
-  early-damaged e = running-is ∙ rw e refl
+  steps-is : step-damaged m w ≡ before-step (row-of (m (phase w))) m w
+  steps-is = ap (λ (b : Bool). not b && before-step (row-of (m (phase w))) m w) (ne-eqb (m (phase w)) 0 busy)
 
-  pub late-damaged : early (row-of (m (phase w))) m w ≡ false → worker-damaged m w ≡ kept-damaged (row-of (m (phase w))) m w
+  asked : (worker-damaged m w || step-damaged m w) ≡ (early (row-of (m (phase w))) m w || late (row-of (m (phase w))) m w)
   unfolding running-damaged
-  late-damaged e = running-is ∙ rw e refl
+  asked =
+      ap₂ (λ (a b : Bool). a || b) running-is steps-is
+      ∙ regrouped (too-many-steps m w) (arguments-damaged (row-of (m (phase w))) m w) (kept-damaged (row-of (m (phase w))) m w) (beyond-at-6 (row-of (m (phase w))) m w)
+
+  -- Where the early tests hold, a step is refused; where they do not, the late ones are left.
+  pub early-damaged : early (row-of (m (phase w))) m w ≡ true → (worker-damaged m w || step-damaged m w) ≡ true
+  early-damaged e = asked ∙ ap (λ (b : Bool). b || late (row-of (m (phase w))) m w) e
+
+  pub late-damaged : early (row-of (m (phase w))) m w ≡ false → (worker-damaged m w || step-damaged m w) ≡ late (row-of (m (phase w))) m w
+  late-damaged e = asked ∙ ap (λ (b : Bool). b || late (row-of (m (phase w))) m w) e
 
 -- The test as step has it, at a row that is the phase's.
 pub early-told : (m : Cells) (w : ℕ) {r : PhaseRow} {v t : Bool} → r ≡ row-of (m (phase w)) → t ≡ early r m w → t ≡ v → early (row-of (m (phase w))) m w ≡ v
@@ -203,13 +229,22 @@ made-busy ws w l busy known e =
     let none = none-of (ltb 5120 (getD ws (16 + 16 * w + 1) 0) ∷ arguments-damaged r m w ∷ []) in
     record { there = l; runs = busy; known = known; few = ltb-false 5120 (getD ws (16 + 16 * w + 1) 0) (none 0 e); arguments = none 1 e }
 
--- Two refusals with one number may be asked in either order; a third, between them, does not hold.
-pub in-order : (a b : ℕ) (ws : List ℕ) {r : Answer} {after : List ℕ} (s k z t : Bool) (o : Outcome) → s ≡ k → z ≡ false
-    → Met a b ws (unless (t ⇒ 2 ∷ k ⇒ 2 ∷ []) o) r after → Met a b ws (unless (s ⇒ 2 ∷ z ⇒ 5 ∷ t ⇒ 2 ∷ []) o) r after
-in-order a b ws {r} {after} s k z t o e f d = rw (e, f) (swapped k t d)
+-- One of two refusals with one number holds.
+pub either-refused : (a b : ℕ) (ws : List ℕ) {r : Answer} {after : List ℕ} (s k : Bool) (o : Outcome) → (s || k) ≡ true
+    → Met a b ws (refused 2) r after → Met a b ws (unless (s ⇒ 2 ∷ k ⇒ 2 ∷ []) o) r after
+either-refused a b ws true k o e d = d
+either-refused a b ws false true o e d = d
+either-refused a b ws false false o e d = absurd (false≢true e)
+
+-- Refusals with one number may be asked in any order; another, between them, does not hold.
+pub in-order : (a b : ℕ) (ws : List ℕ) {r : Answer} {after : List ℕ} (s k rest z t : Bool) (o : Outcome) → (s || k) ≡ rest → z ≡ false
+    → Met a b ws (unless (t ⇒ 2 ∷ rest ⇒ 2 ∷ []) o) r after → Met a b ws (unless (s ⇒ 2 ∷ k ⇒ 2 ∷ z ⇒ 5 ∷ t ⇒ 2 ∷ []) o) r after
+in-order a b ws {r} {after} s k rest z t o e f d = rw f (sorted s k t (rw (← e) at d))
   where
-    swapped : (k t : Bool) → Met a b ws (unless (t ⇒ 2 ∷ k ⇒ 2 ∷ []) o) r after → Met a b ws (unless (k ⇒ 2 ∷ t ⇒ 2 ∷ []) o) r after
-    swapped true true d = d
-    swapped true false d = d
-    swapped false true d = d
-    swapped false false d = d
+    sorted : (s k t : Bool) → Met a b ws (unless (t ⇒ 2 ∷ (s || k) ⇒ 2 ∷ []) o) r after → Met a b ws (unless (s ⇒ 2 ∷ k ⇒ 2 ∷ t ⇒ 2 ∷ []) o) r after
+    sorted true k true d = d
+    sorted true k false d = d
+    sorted false true true d = d
+    sorted false true false d = d
+    sorted false false true d = d
+    sorted false false false d = d

@@ -1,6 +1,6 @@
 -- Every reached catalogue is well-formed.
 use Prim.Native.Nat.{ℕ, zero, suc, pred, _+_, _-_, _<_, _≤_}
-use mathlib.Core.Bool.{Bool, true, false, _||_}
+use mathlib.Core.Bool.{Bool, true, false, not, _||_, _&&_}
 use mathlib.Core.List.{List, [], _∷_}
 use mathlib.Core.Logic.{_≢_, inl, inr}
 use mathlib.Core.Path.{_≡_, refl, ap, sym, _∙_, subst}
@@ -10,20 +10,20 @@ use lib.ListN.{length}
 use borrow.Author.Tests.{ne-eqb}
 use Rattle.definitions.specs.Cells.{Cells, cells-of, workers, items, used, given-back, phase, new-node, head, older, stamp}
 use Rattle.definitions.specs.Phases.{row-of, table}
-use Rattle.definitions.specs.Damage.{TBD, keeps-new-node}
+use Rattle.definitions.specs.Damage.{TBD, keeps-new-node, step-damaged}
 use Rattle.definitions.specs.Lines.{line-of-phase, lines}
 use Rattle.cells.specs.WellFormed.{next-link, link-after, Place, in-list, returned, held-by, Stands-at, Ends-with-birth, Well-formed}
 use Rattle.history.specs.Tools.{Split, split}
 use Rattle.history.specs.Machine.{Item, Memory, Phase, line-37, line-39, line-41, line-43, line-45, line-46, line-48, line-50, line-51, line-52, line-5, line-6, line-32, line-34, total-32, total-34, closing, line-20, line-21, line-22, line-number, Worker, idle, busy, Catalogue}
 use Rattle.reached.specs.Parts.{Shared, Local, shared-of, local-of}
-use Rattle.reached.specs.Sound.{Steps-well}
+use Rattle.reached.specs.Sound.{Steps-well, step-sound}
 use Rattle.reached.specs.Grows.{Memory-well}
 use Rattle.reached.specs.Image.{Owner, unused, waits, held, version, Chain, Shared-image, Kept, Busy-image, Worker-image, Holds, phase-number}
 use Rattle.reached.specs.Ready.{line-same, node-fits}
 use Rattle.reached.specs.Homes.{Waits-at, Holding, Worker-holding}
 use Rattle.reached.specs.Whole.{Few-steps, Catalogue-image}
 use Rattle.reached.specs.Step.{is-busy, has, steps-well}
-use Rattle.reached.specs.Start.{first-worker, worker-sound, item-is-sound}
+use Rattle.reached.specs.Start.{first-worker, worker-sound, birth-in, item-is-sound}
 use Rattle.reached.specs.Run.{Words-image, header-is-sound}
 
 -- The same walk, from its front.
@@ -301,6 +301,21 @@ module _ (f : Cells) (s : Catalogue) (Z : Catalogue-image f s) (F : Few-steps (s
       in-items = omega (arith, Z .shared .items-are)
 
   -- ---- no word is damaged
+  before-step : (w : ℕ) → w < f workers → step-damaged f w ≡ false
+  before-step w l = at (s .worker w) refl
+    where
+      w-in : w < s .memory .limits .workers
+      w-in = omega (arith, Z .header .workers-are)
+      at : (v : Worker) → s .worker w ≡ v → step-damaged f w ≡ false
+      at idle e = let z : f (phase w) ≡ 0 = subst (λ (v : Worker). Worker-image (s .memory .item) (local-of f w) v) e (Z .worker-is w w-in) in rw z
+      at (busy o ls ph) e = rw (R .at-phase, step-sound (row-of (phase-number ph)) f w (R .record-fits)) (and-false (not (eqb (phase-number ph) 0)))
+        where
+          R : Steps-well (phase-number ph) f w
+          R = steps-well f s Z w w-in o ls ph e (F w o ls ph e)
+          and-false : (b : Bool) → b && false ≡ false
+          and-false true = refl
+          and-false false = refl
+
   line-sound : (w : ℕ) → w < f workers → line-of-phase (f (phase w)) .damaged f w ≡ false
   line-sound w l = at (s .worker w) refl
     where
@@ -319,8 +334,10 @@ image-well-formed ws s U F = record {
   undamaged = record {
     header-sound = header-is-sound ws s U;
     worker-sound = λ w l. worker-sound (cells-of ws) s Z F w (omega (arith, Z .header .workers-are)) (s .worker w) refl;
+    step-sound = before-step (cells-of ws) s Z F;
     line-sound = line-sound (cells-of ws) s Z F;
     item-sound = λ i l. item-is-sound (cells-of ws) s Z i (omega (arith, Z .shared .items-are));
+    birth-sound = λ i l. birth-in (cells-of ws) s Z i (omega (arith, Z .shared .items-are));
     node-sound = λ n l. node-fits (cells-of ws) (s .memory) (Z .own) 0 (first-worker (cells-of ws) s Z) n
         (omega (arith, Z .shared .used-are, Z .shared .used-in)) };
   some-place = some-place (cells-of ws) s Z F; one-place = one-place (cells-of ws) s Z F; never-rise = never-rise (cells-of ws) s Z F;

@@ -8,7 +8,7 @@ use lib.Dec.{eqb, leb}
 use borrow.Author.Tests.{le-ltb, lt-leb, ne-eqb, ltb-true, leb-false, eqb-false}
 use Rattle.definitions.specs.Cells.{Cells, workers, items-limit, nodes-limit, projects, counter-limit, counter, items, used, given-back, phase, steps, item, old, new, handle, noted, node, new-node, value, older, stamp}
 use Rattle.definitions.specs.Phases.{row-of, table}
-use Rattle.definitions.specs.Damage.{TBD, item-damaged, value-damaged, stamp-damaged, node-damaged, older-damaged, inside-item}
+use Rattle.definitions.specs.Damage.{TBD, item-damaged, value-damaged, stamp-damaged, node-damaged, first-damaged, older-damaged, inside-item}
 use Rattle.definitions.specs.Lines.{Line, line-of-phase, lines, help-20, help-21, help-22, taken-node, returned-node, tested-node, its-value, too-new, no-node, node-to-take}
 use Rattle.history.specs.Machine.{Memory, Limits, Then, then-39, then-43, then-48, then-52, then-34, then-total-34, Phase, line-37, line-39, line-41, line-43, line-45, line-46, line-48, line-50, line-51, line-52, line-5, line-6, line-32, line-34, total-32, total-34, closing, line-20, line-21, line-22, helped-item, line-number}
 use Rattle.reached.specs.Parts.{shared-of, local-of}
@@ -211,8 +211,15 @@ module _ (f : Cells) (m : Memory) (own : ℕ → Owner) (w : ℕ) (X : Standing 
   first-below : f given-back ≢ 0 → f given-back - 1 < m .limits .nodes
   first-below e = omega (arith, first-in 0 0 w m (X .well) (shared-of f) own (X .shared), X .shared .used-are, X .shared .used-in)
 
-  -- the node that line 45 and register take is not damaged
-  pub taken-fits : no-node f ≡ false → node-damaged f (node-to-take f) ≡ false
+  -- the first node given back is not damaged, nor is the node that line 45 takes
+  pub first-fits : first-damaged f ≡ false
+  first-fits = at (eqb (f given-back) 0) refl
+    where
+      at : (b : Bool) → eqb (f given-back) 0 ≡ b → not b && node-damaged f (f given-back - 1) ≡ false
+      at true e = refl
+      at false e = node-fits (f given-back - 1) (first-below (eqb-false _ _ e))
+
+  taken-fits : no-node f ≡ false → node-damaged f (node-to-take f) ≡ false
   taken-fits = at (eqb (f given-back) 0) refl (leb (f nodes-limit) (f used)) refl
     where
       at : (a : Bool) → eqb (f given-back) 0 ≡ a → (b : Bool) → leb (f nodes-limit) (f used) ≡ b → a && b ≡ false
@@ -231,11 +238,7 @@ module _ (f : Cells) (m : Memory) (own : ℕ → Owner) (w : ℕ) (X : Standing 
   returned-words : f (new-node w) < f used → returned-node f w ≡ false
   returned-words l =
       neither _ _ (le-ltb (f used) (f (older (f (new-node w)))) (X .nodes .older-in (f (new-node w)) (node-in (f (new-node w)) l)))
-          (at (eqb (f given-back) 0) refl)
-    where
-      at : (b : Bool) → eqb (f given-back) 0 ≡ b → not b && node-damaged f (f given-back - 1) ≡ false
-      at true e = refl
-      at false e = node-fits (f given-back - 1) (first-below (eqb-false _ _ e))
+          first-fits
 
   -- line 34 meets no TBD, and goes on only where there is an older node
   tested-words : (i h x : ℕ) → i < m .items → m .item i .stamp 0 ≤ h → x < m .item i .valid → f (handle w) ≡ h → f (node w) ≡ m .item i .node x

@@ -11,7 +11,7 @@ use borrow.Author.Tests.{lt-leb, le-leb, leb-false, eq-eqb, ne-eqb}
 use Rattle.definitions.specs.Cells.{Cells, Assignment, _≔_, nodes-limit, items-limit, projects, counter, items, used, given-back, head, birth, size, value, older, stamp}
 use Rattle.definitions.specs.Answers.{accepted}
 use Rattle.definitions.specs.Answers as outcome
-use Rattle.definitions.specs.Damage.{TBD, bad-value, node-damaged}
+use Rattle.definitions.specs.Damage.{TBD, bad-value, first-damaged}
 use Rattle.definitions.specs.Lines as code-lines
 use Rattle.definitions.specs.Calls as code
 use Rattle.definitions.specs.Calls.{Call}
@@ -23,7 +23,7 @@ use Rattle.reached.specs.Grows.{Item-well, Memory-well, Item-grows, Grow
 use Rattle.reached.specs.Effects.{item-grows-refl}
 use Rattle.reached.specs.Image.{Owner, unused, held, version, Chain, Shared-image, Nodes-fit, Busy-image, Worker-image}
 use Rattle.reached.specs.Nodes.{No-version, Taken, taken, taken-no-version, taken-not-held, After-taking, after-taking, used-after-taking, first-after-taking, version-apart}
-use Rattle.reached.specs.Ready.{taken-fits}
+use Rattle.reached.specs.Ready.{first-fits}
 use Rattle.reached.specs.Holding.{Stays-held, holds-frame, kept-later}
 use Rattle.reached.specs.Homes.{taken-homes}
 use Rattle.reached.specs.Whole.{Worker-known, Worker-holds, State-image, Catalogue-image, Call-image}
@@ -275,5 +275,4 @@ module _ (f : Cells) (s : Catalogue) (Z : Catalogue-image f s) (v z : ℕ) where
           (λ a. refuse-or f s Z 10 (leb (s .memory .limits .items) (s .memory .items)) (leb (f items-limit) (f items))
               (ap₂ leb (Z .header .items-are) (Z .shared .items-are))
             (λ b. refuse-or f s Z 11 (none-left (node-to-take (s .memory))) (code-lines.no-node f) (finds .none-same)
-              (λ c. sound-or f s Z (node-damaged f (code-lines.node-to-take f))
-                  (taken-fits f (s .memory) (Z .own) 0 (first-worker f s Z) (finds .none-same ∙ c)) (accepts (leb-false _ _ a) (leb-false _ _ b) c))))
+              (λ c. sound-or f s Z (first-damaged f) (first-fits f (s .memory) (Z .own) 0 (first-worker f s Z)) (accepts (leb-false _ _ a) (leb-false _ _ b) c))))

@@ -10,7 +10,7 @@ use borrow.Author.Tests.{le-ltb, lt-leb, eq-eqb, ne-eqb}
 use Rattle.definitions.specs.declared.PhaseRow.{PhaseRow}
 use Rattle.definitions.specs.Cells.{Cells, workers, projects, counter-limit, counter, items, used, phase, steps, item, old, new, handle, project, noted, node, new-node, seen, head, birth, value, older, stamp, needed}
 use Rattle.definitions.specs.Phases.{row, row-of}
-use Rattle.definitions.specs.Damage.{TBD, any-of, any-from, outside, header-damaged-at, bad-value, bad-handle, bad-item, inside-item, sum, arguments-damaged, keeps-node, keeps-new-node, kept-damaged, running-damaged, item-damaged, stamp-damaged, node-damaged}
+use Rattle.definitions.specs.Damage.{TBD, any-of, any-from, outside, header-damaged-at, bad-value, bad-handle, bad-item, inside-item, sum, arguments-damaged, keeps-node, keeps-new-node, kept-damaged, running-damaged, before-step, bad-stamp, item-damaged, stamp-damaged, node-damaged}
 use Rattle.definitions.specs.Lines.{line-of-phase}
 use Rattle.definitions.specs.Calls.{stepping}
 
@@ -108,23 +108,30 @@ pub record Running-fits (r : PhaseRow) (f : Cells) (w : ℕ) : Type 0 where
 pub running-sound : (r : PhaseRow) (f : Cells) (w : ℕ) → Running-fits r f w → running-damaged r f w ≡ false
 unfolding running-damaged kept-damaged
 running-sound r f w h =
-    none-of (but (le-ltb _ _ (h .few-steps)) (but (arguments-sound r f w (h .arguments-in))
-        (but (none-of (but (only-where (keeps-node r) _ (when (keeps-node r) (λ l. lt-leb _ _ l) (h .kept-in .node-in)))
+    neither _ _ (arguments-sound r f w (h .arguments-in))
+        (none-of (but (only-where (keeps-node r) _ (when (keeps-node r) (λ l. lt-leb _ _ l) (h .kept-in .node-in)))
         (but (only-where (keeps-new-node r) _ (when (keeps-new-node r) (λ l. lt-leb _ _ l) (h .kept-in .new-node-in)))
-        (but (only-where (eqb (r .line) 22) _ (when (eqb (r .line) 22) (λ l. le-ltb _ _ l) (h .kept-in .seen-in)))
-        (but (only-where (eqb (r .line) 6) _ (when (eqb (r .line) 6) (λ l. lt-leb _ _ l) (h .kept-in .seen-below))) (none)))))) (none))))
+        (but (only-where (eqb (r .line) 22) _ (when (eqb (r .line) 22) (λ l. le-ltb _ _ l) (h .kept-in .seen-in))) (none)))))
 
--- An item's record, and a node's words.
-pub item-sound : (f : Cells) (i : ℕ) → f (head i) < f used → f (birth i) ≤ f counter → item-damaged f i ≡ false
-item-sound f i h b = neither _ _ (lt-leb _ _ h) (le-ltb _ _ b)
+-- The two tests that only a step has.
+pub step-sound : (r : PhaseRow) (f : Cells) (w : ℕ) → Running-fits r f w → before-step r f w ≡ false
+step-sound r f w h =
+    neither _ _ (le-ltb _ _ (h .few-steps)) (only-where (eqb (r .line) 6) _ (when (eqb (r .line) 6) (λ l. lt-leb _ _ l) (h .kept-in .seen-below)))
 
-pub stamp-sound : (f : Cells) (n : ℕ) → (f (stamp n) ≤ f counter) ⊎ (f (stamp n) ≡ TBD) → stamp-damaged f n ≡ false
-stamp-sound f n (inl h) = rw (le-ltb (f counter) (f (stamp n)) h)
-stamp-sound f n (inr h) = rw (eq-eqb (f (stamp n)) TBD h) (and-false (ltb (f counter) (f (stamp n))))
+-- A stamp, an item's record, and a node's words.
+stamp-in : (f : Cells) (t : ℕ) → (t ≤ f counter) ⊎ (t ≡ TBD) → bad-stamp f t ≡ false
+stamp-in f t (inl h) = rw (le-ltb (f counter) t h)
+stamp-in f t (inr h) = rw (eq-eqb t TBD h) (and-false (ltb (f counter) t))
   where
     and-false : (b : Bool) → b && false ≡ false
     and-false true = refl
     and-false false = refl
+
+pub item-sound : (f : Cells) (i : ℕ) → f (head i) < f used → f (birth i) ≤ f counter → item-damaged f i ≡ false
+item-sound f i h b = neither _ _ (lt-leb _ _ h) (stamp-in f (f (birth i)) (inl b))
+
+pub stamp-sound : (f : Cells) (n : ℕ) → (f (stamp n) ≤ f counter) ⊎ (f (stamp n) ≡ TBD) → stamp-damaged f n ≡ false
+stamp-sound f n = stamp-in f (f (stamp n))
 
 pub node-sound : (f : Cells) (n : ℕ) → f (value n) < f projects → f (older n) ≤ f used → (f (stamp n) ≤ f counter) ⊎ (f (stamp n) ≡ TBD)
     → node-damaged f n ≡ false
@@ -169,5 +176,5 @@ pub steps-line : (k : ℕ) (f : Cells) (w : ℕ) → Steps-well k f w → steppi
 unfolding stepping
 steps-line k f w h = unfold stepping in
     rw (lt-leb (f workers) w (h .worker-in), h .at-phase, le-ltb 35 k (h .known .1), ne-eqb k 0 (λ e. absurd (omega (arith, h .known .0))),
-        running-sound (row-of k) f w (h .record-fits),
+        running-sound (row-of k) f w (h .record-fits), step-sound (row-of k) f w (h .record-fits),
     only-where (inside-item (row-of k)) (item-damaged f (f (item w))) (h .item-fits), h .words-fit)

@@ -1,5 +1,5 @@
 -- A start on the cells is the machine's start: the same refusals in the same order, and never damage.
-use Prim.Native.Nat.{ℕ, pred, _<_}
+use Prim.Native.Nat.{ℕ, pred, _<_, _≤_}
 use mathlib.Core.Bool.{Bool, true, false, cond, not, _||_, _&&_}
 use mathlib.Core.List.{List, []}
 use mathlib.Core.Logic.{_≢_}
@@ -61,14 +61,17 @@ module _ (f : Cells) (s : Catalogue) (Z : Catalogue-image f s) where
   pub sound-or : (b : Bool) {out : Outcome} {y : Move} → b ≡ false → Move-image f s out y → Move-image f s (cond b (outcome.refused 2) out) y
   sound-or b {out} {y} e h = subst (λ (a : Bool). Move-image f s (cond a (outcome.refused 2) out) y) (sym e) h
 
-  -- a registered item's record is never damaged
+  -- a registered item's birth stamp is a counter value, and its record never damaged
+  pub birth-in : (i : ℕ) → i < s .memory .items → f (birth i) ≤ f counter
+  birth-in i l = omega (arith, Z .shared .birth-is i l, Z .shared .counter-is, Z .well .item-well i l .past 0 (Z .well .item-well i l .some))
+
   pub item-is-sound : (i : ℕ) → i < s .memory .items → item-damaged f i ≡ false
   item-is-sound i l =
       item-sound f i
       (omega (arith, Z .shared .head-is i l, Z .shared .used-are,
           version-below (s .memory) (shared-of f) (Z .own) (Z .shared) i (pred (s .memory .item i .versions)) l
         (omega (arith, Z .well .item-well i l .some, Z .well .item-well i l .few))))
-      (omega (arith, Z .shared .birth-is i l, Z .shared .counter-is, Z .well .item-well i l .past 0 (Z .well .item-well i l .some)))
+      (birth-in i l)
 
   pub value-same : (v : ℕ) → bad-value f v ≡ leb (s .memory .limits .projects) v
   value-same v = ap (λ (n : ℕ). leb n v) (Z .header .projects-are)

@@ -13,7 +13,7 @@ use Rattle.definitions.specs.declared.PhaseRow.{PhaseRow}
 use Rattle.definitions.specs.Cells.{Cell, cell, Cells, Assignment, _≔_, items-limit, counter-limit, counter, items, used, given-back, phase, steps, item, old, new, handle, noted, node, new-node, seen, sum-low, sum-high, head, birth, size, value, older, stamp, record-of, cleared}
 use Rattle.definitions.specs.Answers.{Outcome, Refusal, unless, _⇒_, goes-on, accepts}
 use Rattle.definitions.specs.Phases.{row-of, table, v-read-start, v-cas-start, published, lost, take-snapshot-start, read-snapshot-start, total-start, closing-phase}
-use Rattle.definitions.specs.Damage.{TBD, inside-item, bad-value, bad-handle, keeps-node, keeps-new-node, running-damaged, worker-damaged, item-damaged, node-damaged}
+use Rattle.definitions.specs.Damage.{TBD, inside-item, bad-value, bad-handle, keeps-node, keeps-new-node, running-damaged, worker-damaged, step-damaged, item-damaged, first-damaged}
 use Rattle.definitions.specs.Lines.{lines, line-of-phase, fetch-head, line-20, line-21, line-22, line-39, line-43, line-45, line-46, line-48, line-50, line-52, line-5, line-6, line-34, total-32, total-34, closing, no-node, node-to-take, too-new, to-older, added}
 use Rattle.definitions.specs.Calls.{Call, busy, no-worker, free-worker, sound-item, registering, registered, starting-v-read, starting-v-cas, starting-take-snapshot, starting-read-snapshot, starting-total, stepping}
 use Rattle.cells.specs.Stands.{Stands}
@@ -367,14 +367,14 @@ module _ (f : Cells) (first-in : f given-back ≤ f used) where
   unfolding stepping
   step-fine w =
       unless-fine
-      (no-worker f w ⇒ 3 ∷ worker-damaged f w ⇒ 2 ∷ eqb (f (phase w)) 0 ⇒ 5
+      (no-worker f w ⇒ 3 ∷ worker-damaged f w ⇒ 2 ∷ step-damaged f w ⇒ 2 ∷ eqb (f (phase w)) 0 ⇒ 5
       ∷ (inside-item (row-of (f (phase w))) && item-damaged f (f (item w))) ⇒ 2 ∷ line-of-phase (f (phase w)) .damaged f w ⇒ 2 ∷ [])
       (line-of-phase (f (phase w)) .does f w)
       (λ k. line-fine w (f (phase w)) (ltb-false 35 (f (phase w)) (first-false (ltb 35 (f (phase w))) (known w) (k .1 .0)))
         (kept-in (row-of (f (phase w))) f w
         (where-asked (not (eqb (f (phase w)) 0)) (running-damaged (row-of (f (phase w))) f w)
-            (second-false (ltb 35 (f (phase w))) (known w) (k .1 .0)) (ap not (k .1 .1 .0))))
-        (eqb-false (f (phase w)) 0 (k .1 .1 .0)))
+            (second-false (ltb 35 (f (phase w))) (known w) (k .1 .0)) (ap not (k .1 .1 .1 .0))))
+        (eqb-false (f (phase w)) 0 (k .1 .1 .1 .0)))
 
   registers : (v z : ℕ) (b : Bool) → eqb (f given-back) 0 ≡ b
       → Keeps f (took b ++ (value (taken b) ≔ v ∷ older (taken b) ≔ 0 ∷ stamp (taken b) ≔ f counter
@@ -395,7 +395,7 @@ module _ (f : Cells) (first-in : f given-back ≤ f used) where
   call-keeps : (x : Call) → Fine (comes-to f x)
   call-keeps (Call.make a b c d e) = nothing-changes f
   call-keeps (Call.register v z) = unfold registering in
-      unless-fine (bad-value f v ⇒ 7 ∷ leb (f items-limit) (f items) ⇒ 10 ∷ no-node f ⇒ 11 ∷ node-damaged f (node-to-take f) ⇒ 2 ∷ [])
+      unless-fine (bad-value f v ⇒ 7 ∷ leb (f items-limit) (f items) ⇒ 10 ∷ no-node f ⇒ 11 ∷ first-damaged f ⇒ 2 ∷ [])
       (registered f v z) (λ k. registers v z (eqb (f given-back) 0) refl)
   call-keeps (Call.v-read w i) = unfold starting-v-read in start-fine w v-read-start i 0 0 0 0 0 (free-worker f w ++ sound-item f i) (omega arith)
   call-keeps (Call.v-cas w i x y) = unfold starting-v-cas in

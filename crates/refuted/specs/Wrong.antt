@@ -9,7 +9,7 @@ use Rattle.definitions.specs.Cells.{Cell, cell, Cells, Assignment, _≔_, count
     older, stamp, items-at, nodes-at, cells-of, written, record-of, cleared}
 use Rattle.definitions.specs.Answers.{Outcome, _⇒_, running, refusal, unless, goes-on}
 use Rattle.definitions.specs.Phases.{row-of}
-use Rattle.definitions.specs.Damage.{any-of, worker-damaged, inside-item, item-damaged, bad-time, older-damaged}
+use Rattle.definitions.specs.Damage.{any-of, worker-damaged, step-damaged, inside-item, item-damaged, bad-time, older-damaged}
 use Rattle.definitions.specs.Lines.{no-node, node-to-take, counter-full, to-older, Line, line, line-of-phase}
 use Rattle.definitions.specs.Calls.{Call, Result, no-worker, leaving, on-catalogue, stepping, outcome}
 use Rattle.cells.specs.Made.{is-make}
@@ -105,7 +105,7 @@ whole-operation-at-once =
 -- A step of worker w that executes line l. With the line of its phase it is `stepping`.
 unfoldable pub stepping-by : Line → Cells → (w : ℕ) → Outcome
 stepping-by l m w =
-    unless (no-worker m w ⇒ 3 ∷ worker-damaged m w ⇒ 2 ∷ eqb (m (phase w)) 0 ⇒ 5
+    unless (no-worker m w ⇒ 3 ∷ worker-damaged m w ⇒ 2 ∷ step-damaged m w ⇒ 2 ∷ eqb (m (phase w)) 0 ⇒ 5
     ∷ (inside-item (row-of (m (phase w))) && item-damaged m (m (item w))) ⇒ 2 ∷ l .damaged m w ⇒ 2 ∷ [])
     (l .does m w)
 

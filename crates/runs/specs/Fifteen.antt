@@ -59,8 +59,8 @@ all-calls r = make (r .workers) (r .items) (r .nodes) (r .projects) (r .counter-
 unfoldable pub Holds : Run → Type 0
 Holds r = (answers-of (lent r) (all-calls r) ≡ accepted 0 ∷ r .answers) × (hold (words-after (lent r) (all-calls r)) (r .final) ≡ true)
 
--- Every run of a list holds.
-abbrev pub Every : (Run → Type 0) → List Run → Type 0
+-- Of every entry of a list.
+abbrev pub Every : {A : Type 0} → (A → Type 0) → List A → Type 0
 Every P [] = Unit
 Every P (r ∷ rs) = P r × Every P rs
 

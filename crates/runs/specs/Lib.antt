@@ -1,2 +1,3 @@
 pub mod Fifteen
 pub mod MayAnswer
+pub mod DamagedWords

@@ -11,12 +11,12 @@ use Rattle.definitions.specs.declared.Answer.{Answer}
 use Rattle.definitions.specs.declared.PhaseRow.{PhaseRow}
 use Rattle.definitions.specs.Cells.{Cells, cells-at, cells-of, items-at, nodes-at}
 use Rattle.definitions.specs.Answers.{_⇒_, unless}
-use Rattle.definitions.specs.Damage.{arguments-damaged, kept-damaged}
+use Rattle.definitions.specs.Damage.{arguments-damaged}
 use Rattle.definitions.specs.Promises.{Met}
 use Rattle.endings.specs.Stepped.{Steps, Ready, stepped}
 use Rattle.tables.specs.Ranges.{kept-at, kept-is}
 use Rattle.tables.specs.Rules.{has-operation, snapshot-lines, other-lines}
-use Rattle.facts.specs.Facts.{Header, Busy}
+use Rattle.facts.specs.Facts.{Header, Busy, late}
 use Rattle.facts.specs.Facts.{ready as make-ready}
 use Rattle.definitions.specs.Phases.{row, table, row-of}
 use Rattle.definitions.specs.Lines.{Line, line, no-words, its-value, taken-node, returned-node, tested-node, line-5, line-6, line-34, line-39, line-43, line-45, line-46, line-48, line-50, line-52, total-32, total-34, closing, fetch, help-20, help-21, help-22, idle, lines, line-of-phase}
@@ -59,19 +59,19 @@ pub record Fit (a b w : ℕ) (r : PhaseRow) (ws : List ℕ) : Type 0 where
   pub arguments : arguments-damaged r (cells-at a b ws) w ≡ false
 
 abbrev pub Kept : (a b w : ℕ) → PhaseRow → List ℕ → Type 0
-Kept a b w r ws = kept-damaged r (cells-at a b ws) w ≡ false
+Kept a b w r ws = late r (cells-at a b ws) w ≡ false
 
 -- A step of worker w does this line of a row, what the row keeps being tested before it: the answer, and every word.
 abbrev pub Row-steps : PhaseRow → Line → (a b w : ℕ) → List ℕ → Answer → List ℕ → Type 0
 Row-steps r l a b w before answer after =
-    Met a b before (unless (kept-damaged r (cells-at a b before) w ⇒ 2 ∷ []) (stepped l (cells-at a b before) w)) answer after
+    Met a b before (unless (late r (cells-at a b before) w ⇒ 2 ∷ []) (stepped l (cells-at a b before) w)) answer after
 
 -- The test of what a line keeps, at the row whose line it is.
-pub kept-told : (r : PhaseRow) (m : Cells) (w k : ℕ) {t v : Bool} → r .line ≡ k → t ≡ kept-at k m w → t ≡ v → kept-damaged r m w ≡ v
+pub kept-told : (r : PhaseRow) (m : Cells) (w k : ℕ) {t v : Bool} → r .line ≡ k → t ≡ kept-at k m w → t ≡ v → late r m w ≡ v
 kept-told r m w k e d v = kept-is r m w ∙ ap (λ (l : ℕ). kept-at l m w) e ∙ sym d ∙ v
 
 -- A line that keeps nothing.
-pub nothing-kept : (r : PhaseRow) (m : Cells) (w k : ℕ) → r .line ≡ k → kept-at k m w ≡ false → kept-damaged r m w ≡ false
+pub nothing-kept : (r : PhaseRow) (m : Cells) (w k : ℕ) → r .line ≡ k → kept-at k m w ≡ false → late r m w ≡ false
 nothing-kept r m w k e h = kept-is r m w ∙ ap (λ (l : ℕ). kept-at l m w) e ∙ h
 
 -- The number of a match's arm, put in the place of the row's line.
@@ -135,7 +135,7 @@ at-rest a b w ws l h d =
     ne-eqb l 50 (h .0 .1),
     ne-eqb l 52 (h .1)) d
 
-pub rest-kept : (r : PhaseRow) (m : Cells) (w : ℕ) → Later (r .line) → None-later (r .line) → kept-damaged r m w ≡ false
+pub rest-kept : (r : PhaseRow) (m : Cells) (w : ℕ) → Later (r .line) → None-later (r .line) → late r m w ≡ false
 unfolding kept-at
 rest-kept r m w g h =
     let l = r .line in

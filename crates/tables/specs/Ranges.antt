@@ -8,12 +8,17 @@ use borrow.Author.Tests.{lt-ltb}
 use lib.Dec.{ltb, leb, eqb}
 use lib.ListN.{getD}
 use Rattle.definitions.specs.declared.PhaseRow.{PhaseRow}
-use Rattle.definitions.specs.Cells.{node-words, Cells, needed, used, counter, counter-limit, node, new-node, seen}
-use Rattle.definitions.specs.Damage.{any-of, any-from, header-tests, header-damaged-at, bad-node, bad-time, kept-damaged}
+use Rattle.definitions.specs.Cells.{node-words, Cells, cells-at, needed, used, counter, counter-limit, node, new-node, seen}
+use Rattle.definitions.specs.Damage.{any-of, any-from, header-tests, header-damaged-at, bad-node, bad-time, kept-damaged, beyond-at-6, node-damaged}
+use Rattle.tables.specs.Part.{part, read-part}
 
 abbrev pub node-outside : List ℕ → (n projects used counter : ℕ) → Bool
 node-outside ns n projects used counter =
     (leb projects (getD ns (node-words * n + 0) 0) || ltb used (getD ns (node-words * n + 1) 0)) || (ltb counter (getD ns (node-words * n + 2) 0) && not (eqb (getD ns (node-words * n + 2) 0) 4294967295))
+
+-- A node's damage in the node part is its damage in the whole.
+pub outside-is : (a b : ℕ) (ws : List ℕ) (n : ℕ) → node-outside (part ws b) n (getD ws 3 0) (getD ws 7 0) (getD ws 5 0) ≡ node-damaged (cells-at a b ws) n
+outside-is a b ws n = rw (read-part ws b (node-words * n + 0), read-part ws b (node-words * n + 1), read-part ws b (node-words * n + 2))
 
 or-left : (a b : Bool) → (a || b) ≡ false → a ≡ false
 or-left true b e = e
@@ -71,13 +76,14 @@ short-damaged count p m n q c now held taken back h = some-of (header-tests coun
 pub neither : (a b : Bool) → a ≡ false → b ≡ false → (a || b) ≡ false
 neither a b e f = rw (e, f)
 
--- What a record keeps, by the number of its line: a row's operation says nothing of it.
+-- What a step asks where its line is known, by the line's number: what the record keeps, and at line 6 the number read at 5. A row's operation says
+-- nothing of it.
 unfoldable pub kept-at : ℕ → Cells → ℕ → Bool
 kept-at l m w =
     any-of ((any-of (eqb l 20 ∷ eqb l 21 ∷ eqb l 22 ∷ eqb l 34 ∷ eqb l 39 ∷ eqb l 43 ∷ eqb l 45 ∷ eqb l 46 ∷ []) && bad-node m (m (node w)))
     ∷ ((eqb l 46 || eqb l 50) && bad-node m (m (new-node w)))
     ∷ (eqb l 22 && bad-time m (m (seen w))) ∷ (eqb l 6 && leb (m counter-limit) (m (seen w))) ∷ [])
 
-pub kept-is : (r : PhaseRow) (m : Cells) (w : ℕ) → kept-damaged r m w ≡ kept-at (r .line) m w
+pub kept-is : (r : PhaseRow) (m : Cells) (w : ℕ) → (kept-damaged r m w || beyond-at-6 r m w) ≡ kept-at (r .line) m w
 unfolding kept-damaged kept-at
 kept-is r m w = refl

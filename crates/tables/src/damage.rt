@@ -10,10 +10,9 @@ use definitions::PhaseRow;
 ghost use mathlib.Core.Path.{_≡_};
 ghost use mathlib.Core.Bool.{_||_};
 ghost use Prim.Native.Nat.{ℕ, _+_, _*_, _<_, _≤_};
-ghost use lib.ListN.{length};
-ghost use lib.Dec.{ltb};
-ghost use Rattle.definitions.specs.Cells.{node-words, cells-at, needed, steps};
-ghost use Rattle.definitions.specs.Damage.{any-of, outside, sizes-outside, header-damaged-at, header-damaged, total-tests, arguments-damaged, kept-damaged, running-damaged, worker-damaged, item-damaged};
+ghost use lib.ListN.{length, getD};
+ghost use Rattle.definitions.specs.Cells.{node-words, cells-at, needed};
+ghost use Rattle.definitions.specs.Damage.{any-of, outside, sizes-outside, header-damaged-at, header-damaged, total-tests, arguments-damaged, kept-damaged, running-damaged, worker-damaged, too-many-steps, item-damaged, first-damaged};
 ghost use Rattle.tables.specs.Ranges.{node-outside, kept-at};
 
 fn beyond(x: u32, low: u32, high: u32) -> bool
@@ -129,10 +128,9 @@ fn kept_is_damaged(words: &[u32], w: usize, row: PhaseRow) -> bool
         & (words[USED] <= words[at + NODE]))
         | (((line == 46) | (line == 50)) & (words[USED] <= words[at + NEW_NODE]))
         | ((line == 22) & (words[COUNTER] < words[at + SEEN]))
-        | ((line == 6) & (words[COUNTER_LIMIT] <= words[at + SEEN]))
 }
 
-// The same, by the line's number: for step, which asks it where the line is known.
+// The same, by the line's number, and at line 6 the number read at 5: for step, which asks it where the line is known.
 pub fn kept_at_line_is_damaged(words: &[u32], w: usize, line: u8) -> bool
     requires { ⌜ 16 + 16 * w + 16 ≤ length (now words) ⌝ }
     ensures { λ r. ⌜ ((a b : ℕ) → r ≡ kept-at line (cells-at a b (now (words .entry))) w) ⌝ }
@@ -158,14 +156,13 @@ pub fn running_is_damaged(words: &[u32], w: usize, row: PhaseRow) -> bool
     requires { ⌜ 16 + 16 * w + 16 ≤ length (now words) ⌝ }
     ensures { λ r. ⌜ ((a b : ℕ) → r ≡ running-damaged row (cells-at a b (now (words .entry))) w) ⌝ }
 {
-    let at = HEADER_WORDS + WORKER_WORDS * w;
-    (5120 < words[at + STEPS]) | arguments_are_damaged(words, w, row) | kept_is_damaged(words, w, row)
+    arguments_are_damaged(words, w, row) | kept_is_damaged(words, w, row)
 }
 
 // The step count and the arguments, as step asks them: with branches, and called from nowhere else, so that they stand in step's own code.
 pub fn steps_or_arguments_are_damaged(words: &[u32], w: usize, row: PhaseRow) -> bool
     requires { ⌜ 16 + 16 * w + 16 ≤ length (now words) ⌝ }
-    ensures { λ r. ⌜ ((a b : ℕ) → r ≡ ltb 5120 (cells-at a b (now (words .entry)) (steps w)) || arguments-damaged row (cells-at a b (now (words .entry))) w) ⌝ }
+    ensures { λ r. ⌜ ((a b : ℕ) → r ≡ too-many-steps (cells-at a b (now (words .entry))) w || arguments-damaged row (cells-at a b (now (words .entry))) w) ⌝ }
 {
     let at = HEADER_WORDS + WORKER_WORDS * w;
     if 5120 < words[at + STEPS] {
@@ -191,13 +188,14 @@ pub fn worker_is_damaged(words: &[u32], w: usize) -> bool
     running_is_damaged(words, w, row)
 }
 
-// An item's record.
+// An item's record. A birth stamp of TBD is no damage.
 pub fn item_is_damaged(words: &[u32], items_at: usize, i: usize) -> bool
     requires { ⌜ (9 ≤ length (now words)) × («items_at» + 4 * i + 4 ≤ length (now words)) ⌝ }
     ensures { λ r. ⌜ ((b : ℕ) → r ≡ item-damaged (cells-at «items_at» b (now (words .entry))) i) ⌝ }
 {
     let at = items_at + ITEM_WORDS * i;
-    (words[USED] <= words[at + HEAD]) | (words[COUNTER] < words[at + BIRTH])
+    let birth = words[at + BIRTH];
+    (words[USED] <= words[at + HEAD]) | ((words[COUNTER] < birth) & (birth != TBD))
 }
 
 // All three words of node n, in the node part.
@@ -207,4 +205,17 @@ pub fn node_is_damaged(nodes: &[u32], n: usize, projects: u32, used: u32, counte
 {
     let stamp = nodes[NODE_WORDS * n + STAMP];
     (projects <= nodes[NODE_WORDS * n + VALUE]) | (used < nodes[NODE_WORDS * n + OLDER]) | ((counter < stamp) & (stamp != TBD))
+}
+
+// The first node given back, where one waits: register and line 50 ask this, and line 45 of the node that it takes.
+pub fn first_is_damaged(words: &[u32], nodes_at: usize) -> bool
+    requires { ⌜ (16 ≤ «nodes_at») × («nodes_at» + node-words * getD (now words) 2 0 ≤ length (now words)) × (getD (now words) 7 0 ≤ getD (now words) 2 0) × (getD (now words) 8 0 ≤ getD (now words) 7 0) ⌝ }
+    ensures { λ r. ⌜ ((a : ℕ) → r ≡ first-damaged (cells-at a «nodes_at» (now (words .entry)))) ⌝ }
+{
+    let back = words[GIVEN_BACK];
+    if back == 0 {
+        return false;
+    }
+    let first = (back - 1) as usize;
+    node_is_damaged(&words[nodes_at..], first, words[PROJECTS], words[USED], words[COUNTER])
 }

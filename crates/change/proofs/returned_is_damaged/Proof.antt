@@ -6,13 +6,12 @@ use lib.ListN.{length-set}
 use native.Mathlib.Omega.{arith}
 use borrow.Author.Tests.{eq-eqb, ne-eqb, lt-ltb, le-ltb, le-leb, lt-leb}
 use Rattle.endings.specs.Laws.{met-if, met-else, refuses, node-word}
-use Rattle.endings.specs.Laws.{outside-is}
 use borrow.Author.Needs.{needs}
 use Rattle.change.proofs.returned_is_damaged.Statement.{statement}
 use Rattle.change.proofs.returned_is_damaged.Tie as tie
 use Rattle.change.proofs.returned_is_damaged.Reads as reads
 use Rattle.change.proofs.returned_is_damaged.Lts as lts
-use Rattle.tables.proofs.damage.node_is_damaged.Reads as node-is-damaged-reads
+use Rattle.tables.proofs.damage.first_is_damaged.Reads as first-is-damaged-reads
 use Rattle.tables.proofs.nodes.word.Reads as word-reads
 
 -- src/lib.rt:71:29
@@ -69,61 +68,15 @@ returns c = let x = c .before .before .before .before .before .before .args in l
     let e = node-word ws (x .nodes-at) (getD ws (16 + 16 * x .w + 9) 0) 1 (c .before .before .word .ensures) in
     rw (← e, lt-ltb _ _ (c .if1 .taken))
 
--- src/lib.rt:77:16
-shared-slice-read-back : tie.Need-shared-slice-read-back
-shared-slice-read-back c = search needs
-
--- src/lib.rt:79:9
-returns-2 : tie.Need-returns-2
-returns-2 c = let x = c .before .before .before .before .before .before .before .before .args in let ws = x .words .now in
-    let e = node-word ws (x .nodes-at) (getD ws (16 + 16 * x .w + 9) 0) 1 (c .before .before .before .before .word .ensures) in
-    rw (← e, le-ltb _ _ (c .before .before .if1 .left), eq-eqb _ _ (c .if2 .taken))
-
--- src/lib.rt:81:18
-sub-first : tie.Need-sub-first
-sub-first c = search needs
-
--- src/lib.rt:81:17
-cast-first : tie.Need-cast-first
-cast-first c = search needs
-
--- src/lib.rt:82:21
-mul-node-is-damaged : tie.Need-mul-node-is-damaged
-mul-node-is-damaged c = search needs
-
--- src/lib.rt:82:21
-sub-node-is-damaged : tie.Need-sub-node-is-damaged
-sub-node-is-damaged c = search needs
-
--- src/lib.rt:82:21
-part-node-is-damaged-start : tie.Need-part-node-is-damaged-start
-part-node-is-damaged-start c = search needs
-
--- src/lib.rt:82:21
-part-node-is-damaged-end : tie.Need-part-node-is-damaged-end
-part-node-is-damaged-end c = search needs
-
--- src/lib.rt:82:48
-shared-slice-read-node-is-damaged : tie.Need-shared-slice-read-node-is-damaged
-shared-slice-read-node-is-damaged c = search needs
-
--- src/lib.rt:82:65
-shared-slice-read-node-is-damaged-2 : tie.Need-shared-slice-read-node-is-damaged-2
-shared-slice-read-node-is-damaged-2 c = search needs
-
--- src/lib.rt:82:78
-shared-slice-read-node-is-damaged-3 : tie.Need-shared-slice-read-node-is-damaged-3
-shared-slice-read-node-is-damaged-3 c = search needs
-
--- src/lib.rt:82:5
-node-is-damaged-requires : tie.Need-node-is-damaged-requires
-node-is-damaged-requires c κs = search needs
+-- src/lib.rt:77:5
+first-is-damaged-requires : tie.Need-first-is-damaged-requires
+first-is-damaged-requires c κs = let r = c .before .before .before .before .before .before .pre .0 in (omega (arith, r .worker, r .items), r .nodes, r .used, r .given-back)
 
 -- src/lib.rt:67:1
-returns-3 : tie.Need-returns-3
-returns-3 c = let x = c .before .before .before .before .before .before .before .before .before .before .before .before .before .args in let ws = x .words .now in
-    let e = node-word ws (x .nodes-at) (getD ws (16 + 16 * x .w + 9) 0) 1 (c .before .before .before .before .before .before .before .before .before .word .ensures) in
-    rw (← e, le-ltb _ _ (c .before .before .before .before .before .before .before .if1 .left), ne-eqb _ _ (c .before .before .before .before .before .if2 .left)) (c .node-is-damaged .ensures ∙ outside-is (x .items-at) (x .nodes-at) ws (getD ws 8 0 - 1))
+returns-2 : tie.Need-returns-2
+returns-2 c = let x = c .before .before .before .before .before .before .before .args in let ws = x .words .now in
+    let e = node-word ws (x .nodes-at) (getD ws (16 + 16 * x .w + 9) 0) 1 (c .before .before .before .word .ensures) in
+    rw (← e, le-ltb _ _ (c .before .if1 .left)) (c .first-is-damaged .ensures (x .items-at))
 
 pub returned-is-damaged-spec : {M : Type 1} → statement M
 returned-is-damaged-spec =
@@ -142,16 +95,5 @@ returned-is-damaged-spec =
     word-requires
     shared-slice-read-if1
     returns
-    shared-slice-read-back
-    returns-2
-    sub-first
-    cast-first
-    mul-node-is-damaged
-    sub-node-is-damaged
-    part-node-is-damaged-start
-    part-node-is-damaged-end
-    shared-slice-read-node-is-damaged
-    shared-slice-read-node-is-damaged-2
-    shared-slice-read-node-is-damaged-3
-    node-is-damaged-requires
-    returns-3)
+    first-is-damaged-requires
+    returns-2)

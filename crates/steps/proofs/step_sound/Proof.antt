@@ -3,12 +3,12 @@ use lib.Dec.{eqb}
 use borrow.Author.Tests.{eq-eqb, ne-eqb, le-leb, lt-leb}
 use Rattle.definitions.specs.Cells.{cells-of, items-at, nodes-at, phase, item}
 use Rattle.definitions.specs.Phases.{row-of}
-use Rattle.definitions.specs.Damage.{inside-item, kept-damaged, worker-damaged, item-damaged}
+use Rattle.definitions.specs.Damage.{inside-item, worker-damaged, step-damaged, item-damaged}
 use Rattle.definitions.specs.Lines.{line-of-phase}
 use Rattle.endings.specs.Stepped.{stepped}
 use Rattle.endings.specs.Laws.{met-if, met-else, refuses}
 use Rattle.definitions.specs.Calls.{stepping}
-use Rattle.facts.specs.Facts.{unknown-phase, idle-sound, early-told, early-damaged, late-damaged, made-busy, in-order}
+use Rattle.facts.specs.Facts.{unknown-phase, idle-sound, idle-steps, late, either-refused, early-told, early-damaged, late-damaged, made-busy, in-order}
 use borrow.Author.Needs.{needs}
 use Rattle.steps.proofs.step_sound.Statement.{statement}
 use Rattle.steps.proofs.step_sound.Tie as tie
@@ -70,7 +70,7 @@ refuse-requires-3 c κs = search needs
 returns-3 : tie.Need-returns-3
 unfolding stepping
 returns-3 c = let x = c .before .before .before .before .before .before .before .args in
-    met-else _ (lt-leb _ _ (c .before .before .before .before .if1 .left)) (met-else _ (idle-sound (cells-of (x .words .now)) (x .worker) (c .before .if3 .taken)) (met-if _ (eq-eqb _ _ (c .before .if3 .taken)) (refuses 5 (c .refuse3 .ensures))))
+    met-else _ (lt-leb _ _ (c .before .before .before .before .if1 .left)) (met-else _ (idle-sound (cells-of (x .words .now)) (x .worker) (c .before .if3 .taken)) (met-else _ (idle-steps (cells-of (x .words .now)) (x .worker) (c .before .if3 .taken)) (met-if _ (eq-eqb _ _ (c .before .if3 .taken)) (refuses 5 (c .refuse3 .ensures)))))
 
 -- src/lib.rt:66:22
 cast-row-at : tie.Need-cast-row-at
@@ -96,7 +96,7 @@ same-length c = search needs
 returns-4 : tie.Need-returns-4
 unfolding stepping
 returns-4 c = let x = c .before .before .before .before .before .before .before .before .before .before .before .args in let ws = x .words .now in let e = early-told (cells-of ws) (x .worker) (c .before .before .before .before .row-at .ensures) (c .before .before .steps-or-arguments-are-damaged .ensures (items-at ws) (nodes-at ws)) (c .before .if4 .taken) in
-    met-else _ (lt-leb _ _ (c .before .before .before .before .before .before .before .before .if1 .left)) (met-if _ (early-damaged (cells-of ws) (x .worker) (c .before .before .before .before .before .before .if2 .left) (c .before .before .before .before .before .if3 .left) e) (refuses 2 (c .refuse4 .ensures)))
+    met-else _ (lt-leb _ _ (c .before .before .before .before .before .before .before .before .if1 .left)) (either-refused (items-at ws) (nodes-at ws) ws (worker-damaged (cells-of ws) (x .worker)) (step-damaged (cells-of ws) (x .worker)) _ (early-damaged (cells-of ws) (x .worker) (c .before .before .before .before .before .before .if2 .left) (c .before .before .before .before .before .if3 .left) e) (refuses 2 (c .refuse4 .ensures)))
 
 -- src/lib.rt:70:5
 step-busy-requires : tie.Need-step-busy-requires
@@ -112,7 +112,7 @@ returns-5 : tie.Need-returns-5
 unfolding stepping
 returns-5 c = let x = c .before .before .before .before .before .before .before .before .before .before .before .before .before .before .args in let ws = x .words .now in let m = cells-of ws in let w = x .worker in let e = early-told (cells-of ws) (x .worker) (c .before .before .before .before .before .before .before .row-at .ensures) (c .before .before .before .before .before .steps-or-arguments-are-damaged .ensures (items-at ws) (nodes-at ws)) (c .before .before .before .before .if4 .left) in
     met-else _ (lt-leb _ _ (c .before .before .before .before .before .before .before .before .before .before .before .if1 .left))
-    (in-order (items-at ws) (nodes-at ws) ws (worker-damaged m w) (kept-damaged (row-of (m (phase w))) m w) (eqb (m (phase w)) 0)
+    (in-order (items-at ws) (nodes-at ws) ws (worker-damaged m w) (step-damaged m w) (late (row-of (m (phase w))) m w) (eqb (m (phase w)) 0)
     (inside-item (row-of (m (phase w))) && item-damaged m (m (item w))) (stepped (line-of-phase (m (phase w))) m w)
     (late-damaged m w (c .before .before .before .before .before .before .before .before .before .if2 .left) (c .before .before .before .before .before .before .before .before .if3 .left) e) (ne-eqb _ _ (c .before .before .before .before .before .before .before .before .if3 .left)) (c .before .before .step-busy .ensures))
 

@@ -10,7 +10,8 @@ use Rattle.endings.specs.Stepped.{Can-take}
 use Rattle.tables.specs.Part.{write-part, length-back, _gets_}
 use Rattle.definitions.specs.Cells.{node-words, Assignment, _≔_, cells-at, written, phase, steps, new, node, new-node, value, older, stamp}
 use Rattle.definitions.specs.Lines.{line-45, no-node, node-to-take, taking}
-use Rattle.endings.specs.Laws.{outside-is, taken-then, taken-told, taken-none, can-take, taken-fits, length-written}
+use Rattle.endings.specs.Laws.{taken-then, taken-told, taken-none, can-take, taken-fits, length-written}
+use Rattle.tables.specs.Ranges.{outside-is}
 use native.Mathlib.Omega.{arith}
 use lib.ListN.{length-set}
 use borrow.Author.Needs.{needs}

@@ -62,22 +62,6 @@ mul-result-3 c = search needs
 shared-slice-read-result-6 : tie.Need-shared-slice-read-result-6
 shared-slice-read-result-6 c = search needs
 
--- src/damage.rt:109:27
-shared-slice-read-result-7 : tie.Need-shared-slice-read-result-7
-shared-slice-read-result-7 c = search needs
-
--- src/damage.rt:109:57
-add-result-4 : tie.Need-add-result-4
-add-result-4 c = search needs
-
--- src/damage.rt:109:51
-mul-result-4 : tie.Need-mul-result-4
-mul-result-4 c = search needs
-
--- src/damage.rt:109:51
-shared-slice-read-result-8 : tie.Need-shared-slice-read-result-8
-shared-slice-read-result-8 c = search needs
-
 -- src/damage.rt:99:1
 returns : tie.Need-returns
 unfolding kept-damaged
@@ -101,8 +85,4 @@ kept-is-damaged-spec =
     add-result-3
     mul-result-3
     shared-slice-read-result-6
-    shared-slice-read-result-7
-    add-result-4
-    mul-result-4
-    shared-slice-read-result-8
     returns)

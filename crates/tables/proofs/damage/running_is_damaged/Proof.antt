@@ -8,26 +8,6 @@ use Rattle.tables.proofs.damage.running_is_damaged.Lts as lts
 use Rattle.tables.proofs.damage.arguments_are_damaged.Reads as arguments-are-damaged-reads
 use Rattle.tables.proofs.damage.kept_is_damaged.Reads as kept-is-damaged-reads
 
--- src/damage.rt:117:29
-mul-at : tie.Need-mul-at
-mul-at c = search needs
-
--- src/damage.rt:117:14
-add-at : tie.Need-add-at
-add-at c = search needs
-
--- src/damage.rt:118:19
-add-result : tie.Need-add-result
-add-result c = search needs
-
--- src/damage.rt:118:13
-mul-result : tie.Need-mul-result
-mul-result c = search needs
-
--- src/damage.rt:118:13
-shared-slice-read-result : tie.Need-shared-slice-read-result
-shared-slice-read-result c = search needs
-
 -- src/damage.rt:118:34
 arguments-are-damaged-requires : tie.Need-arguments-are-damaged-requires
 arguments-are-damaged-requires c κs = search needs
@@ -45,11 +25,6 @@ pub running-is-damaged-spec : {M : Type 1} → statement M
 running-is-damaged-spec =
     tie.close
     (tie.spec
-    mul-at
-    add-at
-    add-result
-    mul-result
-    shared-slice-read-result
     arguments-are-damaged-requires
     kept-is-damaged-requires
     returns)
