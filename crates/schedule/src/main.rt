@@ -8,13 +8,13 @@ ghost use mathlib.Core.List.{_++_};
 ghost use lib.ListN.{length, take, drop};
 ghost use Rattle.text.specs.Feeding.{Piece, Last};
 ghost use Rattle.text.specs.Replies.{lent};
-ghost use Rattle.schedule.specs.Turns.{out-length, After, Turned};
-ghost use Rattle.schedule.specs.Sessions.{Ran};
+ghost use Rattle.schedule.specs.Turns.{out-length, read-into, After, Turned};
+ghost use Rattle.schedule.specs.Exchanges.{Ran};
 
 // An answer line for each byte read.
 const OUT_LENGTH: usize = 16384 * frames::ANSWER_LENGTH;
 
-// What a turn came to: how many bytes wait for their line feed, how many bytes of answers were written, and whether the input goes on.
+// What a turn came to: how many bytes wait for their line feed, how many bytes of answers were handed to write, and whether the program goes on.
 struct Turn {
     held: usize,
     written: usize,
@@ -57,7 +57,7 @@ fn answer(bytes: &mut [u8], held: usize, count: usize, words: &mut [u32], out: &
 fn after_read(got: isize, bytes: &mut [u8], held: usize, words: &mut [u32], out: &mut [u8]) -> Turn
     requires { ⌜ (length (now bytes) ≡ 16384) × (length (now out) ≡ out-length) × (held ≤ 65) ⌝ }
     ensures { λ r. ⌜ (r .held ≤ 65)
-        × After got (take held (now (bytes .entry))) (drop held (now (bytes .entry))) (now (words .entry)) (now (out .entry))
+        × After got (take held (now (bytes .entry))) (read-into (drop held (now (bytes .entry))) got) (now (words .entry)) (now (out .entry))
         r (now (bytes .exit)) (now (words .exit)) (now (out .exit)) ⌝ }
 {
     if got < 0 {
@@ -82,21 +82,22 @@ fn take_turn(bytes: &mut [u8], held: usize, words: &mut [u32], out: &mut [u8]) -
     after_read(got, bytes, held, words, out)
 }
 
-// Turns until the input ends or cannot be read, or the output cannot be written.
-fn run(bytes: &mut [u8], words: &mut [u32], out: &mut [u8])
+// Turns until the input ends or cannot be read, or the output cannot be written. It could go on, and answers true, only where all turns are spent.
+fn run(bytes: &mut [u8], words: &mut [u32], out: &mut [u8]) -> bool
     requires { ⌜ (length (now bytes) ≡ 16384) × (length (now out) ≡ out-length) ⌝ }
-    ensures { λ _. ⌜ Ran (now (words .entry)) (now (words .exit)) ⌝ }
+    ensures { λ r. ⌜ Ran (now (words .entry)) r (now (words .exit)) ⌝ }
 {
     let mut held = 0;
     let mut turns = u64::MAX;
     while turns > 0 {
         let done = take_turn(bytes, held, words, out);
         if !done.goes_on {
-            return;
+            return false;
         }
         held = done.held;
         turns -= 1;
     }
+    true
 }
 
 fn text_buffer() -> [u8; 16384]
@@ -117,6 +118,8 @@ fn lent_words() -> [u32; 16384]
     [0; 16384]
 }
 
+// A contract could speak of none of main's locals. What is proved: the words that it lends are `lent` (`lent_words`), and what a run from them comes
+// to, turn by turn (`run`). `program-prints` (specs/Sessions.antt) puts the two together.
 fn main() {
     let mut bytes = text_buffer();
     let mut words = lent_words();

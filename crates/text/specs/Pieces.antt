@@ -14,18 +14,8 @@ use Rattle.frames.specs.LineLaws.{lines-in-two, whole-feed, whole-none, whole-a
 use Rattle.frames.specs.Frames.{frame}
 use Rattle.frames.specs.AnswerLines.{answer-line}
 use Rattle.frames.specs.FrameLaws.{too-long}
-use Rattle.text.specs.Replies.{replied, answers, words-after, frames-of, lent, printed}
+use Rattle.text.specs.Replies.{replied, answers, words-after, frames-of}
 use Rattle.text.specs.Feeding.{kept, frames-in, last-frame, longest-kept}
-
--- What is printed on pieces of a text, one after the other, from words and what is kept of an unfinished line.
--- It is what the calls of the program's turns write, by their contracts (Piece, Last).
-unfoldable pub printed-in-pieces : List ℕ → List ℕ → List (List ℕ) → List ℕ
-printed-in-pieces ws k [] = answers ws (last-frame k)
-printed-in-pieces ws k (p ∷ ps) = answers ws (frames-in (k ++ p)) ++ printed-in-pieces (words-after ws (frames-in (k ++ p))) (kept (k ++ p)) ps
-
-unfoldable pub joined : List (List ℕ) → List ℕ
-joined [] = []
-joined (p ∷ ps) = p ++ joined ps
 
 -- ---- a line that is cut at 65 bytes is as bad as the whole line
 
@@ -159,30 +149,3 @@ unfolding frames-in kept
 frames-at-end t =
     ap (map frame) (lines-in-two t) ∙ frames-append (whole-lines t) (last-line (unfinished t))
     ∙ ap (λ (fs : List Frame). map frame (whole-lines t) ++ fs) (sym (last-alone (unfinished t)))
-
--- What is printed on a text and then on pieces, one after the other, is what is printed on all of it.
-pub pieces-after : (ws t : List ℕ) (ps : List (List ℕ))
-    → answers ws (frames-in t) ++ printed-in-pieces (words-after ws (frames-in t)) (kept t) ps ≡ answers ws (frames-of (t ++ joined ps))
-unfolding printed-in-pieces joined
-pieces-after ws t [] =
-    sym (answers-append ws (frames-in t) (last-frame (kept t)))
-    ∙ ap (answers ws) (sym (frames-at-end t) ∙ ap frames-of (sym (append-nil t)))
-pieces-after ws t (p ∷ ps) =
-    let fs = frames-in t in
-    let gs = frames-in (kept t ++ p) in
-    sym (append-assoc (answers ws fs) (answers (words-after ws fs) gs) _)
-    ∙ ap (λ (l : List ℕ). l ++ printed-in-pieces (words-after (words-after ws fs) gs) (kept (kept t ++ p)) ps) (sym (answers-append ws fs gs))
-    ∙ ap (λ (l : List ℕ). answers ws (fs ++ gs) ++ printed-in-pieces l (kept (kept t ++ p)) ps) (sym (after-append ws fs gs))
-    ∙ ap (λ (l : List ℕ). answers ws (fs ++ gs) ++ printed-in-pieces (words-after ws (fs ++ gs)) l ps) (sym (kept-on t p))
-    ∙ ap (λ (hs : List Frame). answers ws hs ++ printed-in-pieces (words-after ws hs) (kept (t ++ p)) ps) (sym (frames-on t p))
-    ∙ pieces-after ws (t ++ p) ps
-    ∙ ap (λ (l : List ℕ). answers ws (frames-of l)) (append-assoc t p (joined ps))
-
--- For any words: what is printed on the pieces of a text is what is printed on the text.
-pub in-pieces : (ws : List ℕ) (ps : List (List ℕ)) → printed-in-pieces ws [] ps ≡ answers ws (frames-of (joined ps))
-unfolding answers words-after frames-in kept whole-lines unfinished
-in-pieces ws ps = pieces-after ws [] ps
-
--- The program, which starts with the lent words and nothing kept.
-pub program-in-pieces : (ps : List (List ℕ)) → printed-in-pieces lent [] ps ≡ printed (joined ps)
-program-in-pieces ps = in-pieces lent ps

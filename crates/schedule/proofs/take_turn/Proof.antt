@@ -1,4 +1,9 @@
+use Prim.Native.Nat.{_-_}
 use native.Mathlib.Omega.{arith}
+use lib.ListN.{length}
+use mir.Syntax.{w64}
+use mir.ValLaws.{toZ-ofZ}
+use borrow.Rule.Slice.PartMut.{same-len-mid}
 use Rattle.schedule.specs.Turns.{turn-of}
 use borrow.Author.Needs.{needs}
 use Rattle.schedule.proofs.take_turn.Statement.{statement}
@@ -44,8 +49,11 @@ same-length-3 c = search needs
 returns : tie.Need-returns
 returns c =
     let a = c .before .before .before .before .before .before .before .before .before .before .before .before .before .before .before .before .before .args in
+    let read = c .before .before .before .before .before .before .before .before .before .before .before .before .read in
     let after = c .before .before .before .before .before .before .after-read .ensures in
-    (after .0, turn-of (a .bytes .now) (a .held) (omega arith) _ _ _ _ _ _ _ _ _ (after .1))
+    (after .0,
+     turn-of (a .bytes .now) (a .held) (omega arith) (omega arith) _ (same-len-mid (a .held) (length (a .bytes .now) - a .held) (a .bytes .now) (read .last .1 .0) (read .kept .1 .0))
+     _ (read .result) (toZ-ofZ w64 (read .result) (record { sfits = read .ok })) (read .ensures) _ _ _ _ _ _ (after .1))
 
 pub take-turn-spec : {M : Type 1} → statement M
 take-turn-spec =
