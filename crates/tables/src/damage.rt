@@ -188,14 +188,20 @@ pub fn worker_is_damaged(words: &[u32], w: usize) -> bool
     running_is_damaged(words, w, row)
 }
 
-// An item's record. A birth stamp of TBD is no damage.
+// An item's record. A birth stamp of TBD is no damage; with branches, since a step asks this and its birth stamp is a counter value.
 pub fn item_is_damaged(words: &[u32], items_at: usize, i: usize) -> bool
     requires { ⌜ (9 ≤ length (now words)) × («items_at» + 4 * i + 4 ≤ length (now words)) ⌝ }
     ensures { λ r. ⌜ ((b : ℕ) → r ≡ item-damaged (cells-at «items_at» b (now (words .entry))) i) ⌝ }
 {
     let at = items_at + ITEM_WORDS * i;
+    if words[USED] <= words[at + HEAD] {
+        return true;
+    }
     let birth = words[at + BIRTH];
-    (words[USED] <= words[at + HEAD]) | ((words[COUNTER] < birth) & (birth != TBD))
+    if birth <= words[COUNTER] {
+        return false;
+    }
+    birth != TBD
 }
 
 // All three words of node n, in the node part.
