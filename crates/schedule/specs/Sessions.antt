@@ -41,9 +41,9 @@ pub record Session (ws₀ ws k : List ℕ) (left : ℕ) : Type 0 where
   pub keeps : k ≡ kept (all-read turns)
   pub hands : all-handed turns ≡ answers ws₀ (frames-in (all-read turns))
 
-pub session-start : (ws : List ℕ) (left : ℕ) → left ≡ most-turns → Session ws ws [] left
+pub session-start : (ws : List ℕ) → Session ws ws [] most-turns
 unfolding all-read all-handed answers words-after frames-in kept whole-lines unfinished
-session-start ws left e = record { turns = []; each-goes-on = tt; counts = omega arith; words = refl; keeps = refl; hands = refl }
+session-start ws = record { turns = []; each-goes-on = tt; counts = omega arith; words = refl; keeps = refl; hands = refl }
 
 -- what was put at the front of the output stands there
 at-front : (xs out out′ : List ℕ) (n : ℕ) → out′ ≡ sets out 0 xs → n ≡ length xs → n ≤ length out → take n out′ ≡ xs

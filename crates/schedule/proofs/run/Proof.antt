@@ -20,7 +20,7 @@ abbrev μ-loop : tie.MeasureT-loop
 
 -- src/main.rt:66:5
 loop-holds : tie.Need-loop-holds Inv-loop μ-loop
-loop-holds c = (search needs, search needs, search needs, search needs, session-start _ _ (search needs))
+loop-holds c = (search needs, search needs, search needs, search needs, session-start _)
 
 -- src/main.rt:67:13
 take-turn-requires : tie.Need-take-turn-requires Inv-loop μ-loop
