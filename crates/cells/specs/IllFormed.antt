@@ -1,12 +1,12 @@
 -- The set of well-formed catalogues is not everything: five sets of words that lie outside it, the first with no word damaged.
-use Prim.Native.Nat.{ℕ, zero, suc, _<_, _≤_}
+use Prim.Native.Nat.{ℕ, zero, suc, _<_}
 use mathlib.Core.Bool.{true, false}
 use mathlib.Core.List.{List, [], _∷_, _++_}
 use mathlib.Core.Path.{_≡_, refl}
 use native.Mathlib.Omega.{arith}
 use lib.ListN.{replicate}
-use Rattle.definitions.specs.Cells.{cells-of, counter, phase, birth}
-use Rattle.definitions.specs.Damage.{header-damaged-at, worker-damaged, step-damaged, item-damaged, node-damaged}
+use Rattle.definitions.specs.Cells.{cells-of, phase}
+use Rattle.definitions.specs.Damage.{header-damaged-at, worker-damaged, item-damaged, node-damaged}
 use Rattle.definitions.specs.Lines.{line-of-phase, lines}
 use Rattle.cells.specs.WellFormed.{Undamaged, in-list, returned, link-after, Well-formed}
 
@@ -27,11 +27,11 @@ pub two-places-undamaged : Undamaged in-two-places
 two-places-undamaged = record {
   header-sound = unfold header-damaged-at in refl;
   worker-sound = only-first (λ (w : ℕ). worker-damaged (cells-of in-two-places) w ≡ false) refl;
-  step-sound = only-first (λ (w : ℕ). step-damaged (cells-of in-two-places) w ≡ false) refl;
+  step-sound = only-first _ refl;
   line-sound = only-first (λ (w : ℕ). line-of-phase (cells-of in-two-places (phase w)) .damaged (cells-of in-two-places) w ≡ false)
       (unfold line-of-phase lines in refl);
   item-sound = only-first (λ (i : ℕ). item-damaged (cells-of in-two-places) i ≡ false) refl;
-  birth-sound = only-first (λ (i : ℕ). cells-of in-two-places (birth i) ≤ cells-of in-two-places counter) (omega arith);
+  birth-sound = only-first _ (omega arith);
   node-sound = two-nodes }
   where
     only-first : (P : ℕ → Type 0) → P 0 → (k : ℕ) → k < 1 → P k
@@ -63,16 +63,16 @@ TBD-behind = catalogue 0 (0 ∷ 2 ∷ 0 ∷ []) (0 ∷ 0 ∷ 4294967295 ∷ [])
 pub TBD-behind-refused : Well-formed TBD-behind → ⊥
 TBD-behind-refused h = unfold link-after in h .TBD-at-head 0 0 1 (omega arith, refl) refl
 
--- Its item has no birth stamp yet.
+-- Its item has no birth stamp yet; nothing else is amiss.
 abbrev TBD-birth : List ℕ
-TBD-birth = words 0 0 0 4294967295 (0 ∷ 0 ∷ 4294967295 ∷ []) (0 ∷ 0 ∷ 0 ∷ [])
+TBD-birth = words 2 0 0 4294967295 (0 ∷ 0 ∷ 4294967295 ∷ []) (0 ∷ 0 ∷ 0 ∷ [])
 
 pub TBD-birth-refused : Well-formed TBD-birth → ⊥
 TBD-birth-refused h = let b = h .undamaged .birth-sound 0 (omega arith) in omega (arith, b)
 
--- Its worker, at line 5, has taken more steps than any operation takes.
+-- Its worker, at line 5, has taken more steps than any operation takes; nothing else is amiss.
 abbrev too-many : List ℕ
-too-many = words 0 23 5121 0 (0 ∷ 0 ∷ 0 ∷ []) (0 ∷ 0 ∷ 0 ∷ [])
+too-many = words 2 23 5121 0 (0 ∷ 0 ∷ 0 ∷ []) (0 ∷ 0 ∷ 0 ∷ [])
 
 pub too-many-refused : Well-formed too-many → ⊥
 too-many-refused h =
