@@ -5,7 +5,7 @@ use mathlib.Core.Path.{_≡_, refl}
 use mathlib.Core.List.{List, [], _∷_, _++_}
 use lib.ListN.{replicate}
 use Rattle.definitions.specs.declared.Answer.{Answer}
-use Rattle.definitions.specs.Cells.{Assignment, _≔_, needed, items-at, nodes-at, written, used, given-back, steps, seen, birth, value}
+use Rattle.definitions.specs.Cells.{Assignment, _≔_, needed, items-at, nodes-at, written, given-back, steps, seen, birth, value}
 use Rattle.definitions.specs.Answers.{finished, running, accepted, refusal}
 use Rattle.definitions.specs.Phases.{table, row-of}
 use Rattle.definitions.specs.Damage.{TBD, header-damaged-at, running-damaged, arguments-damaged, kept-damaged}
