@@ -1,6 +1,6 @@
 #!/bin/bash
 # How schedule reads and writes: empty input, no last line feed, one byte at a time, a line of a megabyte, an output that cannot be written,
-# an input that cannot be read on.
+# an input that cannot be read on; and that given an argument it reads and answers nothing.
 # usage: tests/streams.sh [PROGRAM]
 cd "$(dirname "$0")/.." || exit 2
 . host/machine.sh
@@ -61,5 +61,18 @@ unread="schedule: standard input cannot be read "
 expect "a read that fails after a whole line" "$(broken_off $'080000\n')" "1200000000000000000000 $unread"
 expect "a read that fails in a line" "$(broken_off $'080000\n0800')" "1200000000000000000000 $unread"
 expect "a read that fails in the first line" "$(broken_off 080000)" "$unread"
+
+printed_and_left() { # ARGUMENTS: what the program prints on the sample, and then what it leaves unread of it
+    { timeout 60 "$program" "$@" 2> /dev/null; cat; } < $sample.in | sum
+}
+given() { # ARGUMENTS: the usage on standard error, nothing on standard output, and all of the input left
+    expect "given '$*', standard error" "$(timeout 60 "$program" "$@" < $sample.in 2>&1 > /dev/null | head -n 1)" "usage: schedule < FRAMES > ANSWERS"
+    expect "given '$*', standard output and the input" "$(printed_and_left "$@")" "$(sum < $sample.in)"
+}
+expect "given nothing, standard output and the input" "$(printed_and_left)" "$(sum < $sample.out)"
+for argument in x 1 '' - -- -h --help "$sample.in"; do
+    given "$argument"
+    given "$argument" "$argument"
+done
 
 if [ "$failed" = 0 ]; then echo "streams: all passed"; else echo "streams: $failed failed"; exit 1; fi

@@ -3,7 +3,7 @@ use libc::STDERR_FILENO;
 use libc::STDIN_FILENO;
 use libc::STDOUT_FILENO;
 ghost use mathlib.Core.Path.{_≡_};
-ghost use Prim.Native.Nat.{_+_, _≤_};
+ghost use Prim.Native.Nat.{_+_, _<_, _≤_};
 ghost use mathlib.Core.List.{_++_};
 ghost use lib.ListN.{length, take, drop};
 ghost use Rattle.text.specs.Feeding.{Piece, Last};
@@ -100,6 +100,26 @@ fn run(bytes: &mut [u8], words: &mut [u32], out: &mut [u8]) -> bool
     true
 }
 
+fn complain() {
+    io::write_all(STDERR_FILENO, b"usage: schedule < FRAMES > ANSWERS\n");
+    io::write_all(STDERR_FILENO, b"schedule takes no argument: it reads frames from standard input, one a line, and prints an answer for each; see schedule(1)\n");
+}
+
+// Runs where the program's name stands alone in its command. Given an argument it says the usage and leaves the buffers as they are: nothing was read
+// into them, and nothing answered.
+fn run_or_complain(name_and_arguments: usize, bytes: &mut [u8], words: &mut [u32], out: &mut [u8]) -> bool
+    requires { ⌜ (length (now bytes) ≡ 16384) × (length (now out) ≡ out-length) ⌝ }
+    ensures { λ r. ⌜ («name_and_arguments» ≤ 1 → Ran (now (words .entry)) r (now (words .exit)))
+        × (1 < «name_and_arguments» → (now (bytes .exit) ≡ now (bytes .entry)) × (now (words .exit) ≡ now (words .entry))
+            × (now (out .exit) ≡ now (out .entry))) ⌝ }
+{
+    if 1 < name_and_arguments {
+        complain();
+        return false;
+    }
+    run(bytes, words, out)
+}
+
 fn text_buffer() -> [u8; 16384]
     ensures { λ r. ⌜ 16384 ≡ length r ⌝ }
 {
@@ -118,11 +138,11 @@ fn lent_words() -> [u32; 16384]
     [0; 16384]
 }
 
-// A contract could speak of none of main's locals. What is proved: the words that it lends are `lent` (`lent_words`), and what a run from them comes
-// to, turn by turn (`run`). `program-prints` (specs/Sessions.antt) puts the two together.
+// A contract could speak of none of main's locals. What is proved: the words that it lends are `lent` (`lent_words`), what a run from them comes to,
+// turn by turn (`run`), and that an argument keeps it from running (`run_or_complain`). `program-prints` (specs/Sessions.antt) puts the first two together.
 fn main() {
     let mut bytes = text_buffer();
     let mut words = lent_words();
     let mut out = out_buffer();
-    run(&mut bytes, &mut words, &mut out);
+    run_or_complain(os::arg_count(), &mut bytes, &mut words, &mut out);
 }
