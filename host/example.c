@@ -33,7 +33,7 @@ static void relink(uint32_t worker) {
     accepted(goravesha_start_vcas(words, count, worker, worker, project[worker], 3 - project[worker], &answer));
     busy[worker] = 1;
   } else if (accepted(goravesha_step(words, count, worker, &answer)) == GORAVESHA_FINISHED) {
-    if (answer[0] == 1) project[worker] = 3 - project[worker];
+    if (answer.value == 1) project[worker] = 3 - project[worker];
     busy[worker] = 0;
   }
 }
@@ -44,7 +44,7 @@ static uint64_t page_answer(void) {
     relink(0);
     relink(1);
   }
-  return answer[0];
+  return answer.value;
 }
 
 static uint64_t size_at(uint32_t project, uint32_t handle) {

@@ -78,8 +78,8 @@ static uint32_t *placed(size_t count) {
 
 static void differ(const uint32_t *words, uint32_t code, struct answer told) {
   print_call();
-  fprintf(stderr, "  the archive: code %" PRIu32 " numbers %" PRIu64 " %" PRIu64 " %" PRIu64 " %" PRIu64 "\n", code, (*answer)[0], (*answer)[1], (*answer)[2],
-          (*answer)[3]);
+  fprintf(stderr, "  the archive: code %" PRIu32 " numbers %" PRIu64 " %" PRIu64 " %" PRIu64 " %" PRIu64 "\n", code, answer->value, answer->steps, answer->stamped,
+          answer->operator_number);
   fprintf(stderr, "  the oracle:  code %" PRIu32 " numbers %" PRIu64 " %" PRIu64 " 0 0\n", told.code, told.value, told.steps);
   for (size_t i = 0; i < expected.count; i++)
     if (words[i] != expected.words[i])
@@ -93,10 +93,10 @@ static void compare(uint32_t *words) {
   uint32_t phase = PHASES;
   if (call->kind == STEP && expected.count >= 32 && call->argument[0] < 64 && 16 + 16 * (size_t)call->argument[0] < expected.count)
     phase = expected.words[16 + 16 * call->argument[0]];
-  memset(*answer, 0xaa, sizeof *answer);
+  memset(answer, 0xaa, sizeof *answer);
   uint32_t code = archive_call(call, words, expected.count, answer);
   struct answer told = oracle_call(call, expected.words, expected.count);
-  int same = code == told.code && (*answer)[0] == told.value && (*answer)[1] == told.steps && (*answer)[2] == 0 && (*answer)[3] == 0;
+  int same = code == told.code && answer->value == told.value && answer->steps == told.steps && answer->stamped == 0 && answer->operator_number == 0;
   if (!same || memcmp(words, expected.words, expected.count * sizeof *words) != 0) differ(words, code, told);
   made++;
   by_origin[present.origin]++;

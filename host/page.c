@@ -13,7 +13,7 @@ static uint32_t kept[GORAVESHA_WORDS(64, 256, 4096)];
 static unsigned wrong;
 
 static void print(uint32_t code, goravesha_answer *answer) {
-  printf("%02x%016llx%04llx\n", (unsigned)code, (unsigned long long)(*answer)[0], (unsigned long long)(*answer)[1]);
+  printf("%02x%016llx%04llx\n", (unsigned)code, (unsigned long long)answer->value, (unsigned long long)answer->steps);
 }
 
 static void listing(size_t count) {
@@ -48,7 +48,7 @@ static void expect(const char *what, int which, size_t count, uint32_t code) {
   goravesha_answer answer = {7, 7, 7, 7};
   memcpy(kept, words, sizeof words);
   uint32_t got = call(which, count, &answer);
-  if (got != code || answer[0] || answer[1] || answer[2] || answer[3] || (code >= GORAVESHA_REFUSED && memcmp(kept, words, sizeof words))) {
+  if (got != code || answer.value || answer.steps || answer.stamped || answer.operator_number || (code >= GORAVESHA_REFUSED && memcmp(kept, words, sizeof words))) {
     fprintf(stderr, "page: %s: call %d with %zu words answered %u (expected %u), or changed a word\n", what, which, count, got, code);
     wrong++;
   }
@@ -59,7 +59,7 @@ static void expect_make(size_t count, uint32_t p, uint32_t m, uint32_t n, uint32
   memcpy(kept, words, sizeof words);
   uint32_t got = goravesha_make(words, count, p, m, n, q, c, &answer);
   int same = !memcmp(kept, words, sizeof words);
-  if (got != code || answer[0] || answer[1] || (code != GORAVESHA_ACCEPTED && !same)) {
+  if (got != code || answer.value || answer.steps || (code != GORAVESHA_ACCEPTED && !same)) {
     fprintf(stderr, "page: make %u %u %u %u %u with %zu words answered %u (expected %u), or changed a word\n", p, m, n, q, c, count, got, code);
     wrong++;
   }

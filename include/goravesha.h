@@ -6,7 +6,7 @@
  * every call may be made with any numbers on any words, of any count. What the host owes: `words` is good for `count` words, `answer` for its
  * four numbers, apart from the words; and calls on the same words come one after the other.
  *
- * Every call returns the code of its answer and writes the answer's four numbers: value, steps, 0, 0.
+ * Every call returns the code of its answer and writes the answer's four numbers: value, steps, and two that are 0.
  *
  *   code              value                      steps
  *   GORAVESHA_FINISHED  what the operation answers  how many steps it took, this one included
@@ -50,8 +50,11 @@ enum { GORAVESHA_FINISHED = 0, GORAVESHA_RUNNING = 1, GORAVESHA_ACCEPTED = 2, GO
 /* How many words a catalogue of P workers, M items and N nodes needs. */
 #define GORAVESHA_WORDS(P, M, N) ((size_t)16 + (size_t)16 * (P) + (size_t)4 * (M) + (size_t)3 * (N))
 
-/* The answer's numbers: value, steps, 0, 0. */
-typedef uint64_t goravesha_answer[4];
+/* The answer's four numbers. `stamped` and `operator_number` are kept for later versions: today every call writes 0 there. */
+typedef struct { uint64_t value, steps, stamped, operator_number; } goravesha_answer;
+
+/* The calls write four numbers of 64 bits, side by side. (An array of -1 where that is not so: every C and C++ refuses it.) */
+typedef char goravesha_answer_is_32_bytes[sizeof(goravesha_answer) == 32 ? 1 : -1];
 
 /*
  * A fresh catalogue: P (1 to 64) workers, at most M (1 to 256) items and N (1 to 4,096) nodes, Q (1 to 256) projects, counter at most

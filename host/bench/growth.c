@@ -22,7 +22,7 @@ static double nanoseconds(void) {
 
 static uint32_t run_out(uint32_t worker) {
   while (goravesha_step(words, count, worker, &answer) == GORAVESHA_RUNNING) {}
-  return (uint32_t)answer[1];
+  return (uint32_t)answer.steps;
 }
 
 static void fill(uint32_t workers, uint32_t items, uint32_t changes) {

@@ -53,7 +53,7 @@ static void relinker_turn(uint32_t worker) {
     busy_with[worker] = item + 1;
   } else if (goravesha_step(words, COUNT, worker, &answer) == GORAVESHA_FINISHED) {
     uint32_t item = busy_with[worker] - 1;
-    check(answer[0] == 1, "a relink was lost");
+    check(answer.value == 1, "a relink was lost");
     linked[item] = next_project(linked[item]);
     busy_with[worker] = 0;
     finished++;
@@ -65,7 +65,7 @@ static void catalogue_job(uint64_t *sums) {
   started = finished = 0;
   goravesha_start_take_snapshot(words, COUNT, REPORTER, &answer);
   while (goravesha_step(words, COUNT, REPORTER, &answer) == GORAVESHA_RUNNING) {}
-  uint32_t handle = (uint32_t)answer[0];
+  uint32_t handle = (uint32_t)answer.value;
   for (uint32_t project = 0; project < PROJECTS; project++) {
     goravesha_start_total(words, COUNT, REPORTER, project, handle, &answer);
     while (goravesha_step(words, COUNT, REPORTER, &answer) == GORAVESHA_RUNNING) {
@@ -73,7 +73,7 @@ static void catalogue_job(uint64_t *sums) {
       relinker_turn(turn);
       turn = turn + 1 == RELINKERS ? 0 : turn + 1;
     }
-    sums[project] = answer[0];
+    sums[project] = answer.value;
   }
   for (; finished != RELINKS; turn = (turn + 1) % RELINKERS) relinker_turn(turn);
 }

@@ -35,10 +35,7 @@ static const struct row rows[36] = {
 };
 
 static inline uint32_t tell(goravesha_answer *answer, uint32_t code, uint64_t value, uint32_t steps) {
-  (*answer)[0] = value;
-  (*answer)[1] = steps;
-  (*answer)[2] = 0;
-  (*answer)[3] = 0;
+  *answer = (goravesha_answer){.value = value, .steps = steps};
   return code;
 }
 
