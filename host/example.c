@@ -19,7 +19,7 @@ static goravesha_answer answer;
 /* No call of this host may be refused: it knows its own sizes. */
 static uint32_t accepted(uint32_t code) {
   if (code >= GORAVESHA_REFUSED) {
-    fprintf(stderr, "refused %" PRIu32 "\n", code - GORAVESHA_REFUSED);
+    fprintf(stderr, "refused: %s\n", goravesha_text(code));
     exit(EXIT_FAILURE);
   }
   return code;
@@ -28,18 +28,16 @@ static uint32_t accepted(uint32_t code) {
 /* One turn of a worker that relinks its item between projects 1 and 2, for ever: a step, or the start of the next relink. */
 static void relink(uint32_t worker) {
   static uint32_t project[2] = {1, 1};
-  static int busy[2];
-  if (!busy[worker]) {
+  if (!goravesha_busy(words, count, worker)) {
     accepted(goravesha_start_vcas(words, count, worker, worker, project[worker], 3 - project[worker], &answer));
-    busy[worker] = 1;
-  } else if (accepted(goravesha_step(words, count, worker, &answer)) == GORAVESHA_FINISHED) {
-    if (answer.value == 1) project[worker] = 3 - project[worker];
-    busy[worker] = 0;
+  } else if (accepted(goravesha_step(words, count, worker, &answer)) == GORAVESHA_FINISHED && answer.value == 1) {
+    project[worker] = 3 - project[worker];
   }
 }
 
-/* The page's own operation, a step at a time, with a turn of both relinkers after each. */
-static uint64_t page_answer(void) {
+/* A project's size at a handle, a step at a time, with a turn of both relinkers after each. */
+static uint64_t size_at(uint32_t project, uint32_t handle) {
+  accepted(goravesha_start_total(words, count, PAGE, project, handle, &answer));
   while (accepted(goravesha_step(words, count, PAGE, &answer)) == GORAVESHA_RUNNING) {
     relink(0);
     relink(1);
@@ -47,14 +45,11 @@ static uint64_t page_answer(void) {
   return answer.value;
 }
 
-static uint64_t size_at(uint32_t project, uint32_t handle) {
-  accepted(goravesha_start_total(words, count, PAGE, project, handle, &answer));
-  return page_answer();
-}
-
+/* A snapshot is two steps: they are taken at once. */
 static uint32_t snapshot(void) {
   accepted(goravesha_start_take_snapshot(words, count, PAGE, &answer));
-  return (uint32_t)page_answer();
+  accepted(goravesha_finish(words, count, PAGE, &answer));
+  return (uint32_t)answer.value;
 }
 
 int main(void) {

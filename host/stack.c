@@ -21,33 +21,36 @@ static struct table table;
 static struct call call;
 static goravesha_answer answer;
 
-/* The eight calls, each made with as many arguments as it takes, and nothing done before or after it. */
-static void make(void) {
+/* The eight calls, each made with as many arguments as it takes, and nothing done before or after it: its code is handed on. */
+static uint32_t make(void) {
   const uint32_t *a = call.argument;
-  goravesha_make(table.words, table.count, a[0], a[1], a[2], a[3], a[4], &answer);
+  return goravesha_make(table.words, table.count, a[0], a[1], a[2], a[3], a[4], &answer);
 }
-static void registers(void) { goravesha_register(table.words, table.count, call.argument[0], call.argument[1], &answer); }
-static void vread(void) { goravesha_start_vread(table.words, table.count, call.argument[0], call.argument[1], &answer); }
-static void vcas(void) {
+static uint32_t registers(void) { return goravesha_register(table.words, table.count, call.argument[0], call.argument[1], &answer); }
+static uint32_t vread(void) { return goravesha_start_vread(table.words, table.count, call.argument[0], call.argument[1], &answer); }
+static uint32_t vcas(void) {
   const uint32_t *a = call.argument;
-  goravesha_start_vcas(table.words, table.count, a[0], a[1], a[2], a[3], &answer);
+  return goravesha_start_vcas(table.words, table.count, a[0], a[1], a[2], a[3], &answer);
 }
-static void take_snapshot(void) { goravesha_start_take_snapshot(table.words, table.count, call.argument[0], &answer); }
-static void read_snapshot(void) { goravesha_start_read_snapshot(table.words, table.count, call.argument[0], call.argument[1], call.argument[2], &answer); }
-static void total(void) { goravesha_start_total(table.words, table.count, call.argument[0], call.argument[1], call.argument[2], &answer); }
-static void step(void) { goravesha_step(table.words, table.count, call.argument[0], &answer); }
-static void nothing(void) {}
+static uint32_t take_snapshot(void) { return goravesha_start_take_snapshot(table.words, table.count, call.argument[0], &answer); }
+static uint32_t read_snapshot(void) {
+  const uint32_t *a = call.argument;
+  return goravesha_start_read_snapshot(table.words, table.count, a[0], a[1], a[2], &answer);
+}
+static uint32_t total(void) { return goravesha_start_total(table.words, table.count, call.argument[0], call.argument[1], call.argument[2], &answer); }
+static uint32_t step(void) { return goravesha_step(table.words, table.count, call.argument[0], &answer); }
+static uint32_t nothing(void) { return 0; }
 
-static void (*const function[KINDS])(void) = {make, registers, vread, vcas, take_snapshot, read_snapshot, total, step};
+static uint32_t (*const function[KINDS])(void) = {make, registers, vread, vcas, take_snapshot, read_snapshot, total, step};
 
-/* The bytes of the stack that a function leaves unpainted. */
-static size_t used_by(void (*made)(void)) {
+/* The bytes of the stack that a function leaves unpainted. What it returns is dropped: a context's function returns nothing. */
+static size_t used_by(uint32_t (*made)(void)) {
   memset(stack, PAINT, sizeof stack);
   getcontext(&inside);
   inside.uc_stack.ss_sp = stack;
   inside.uc_stack.ss_size = sizeof stack;
   inside.uc_link = &outside;
-  makecontext(&inside, made, 0);
+  makecontext(&inside, (void (*)(void))made, 0);
   swapcontext(&outside, &inside);
   size_t untouched = 0;
   while (untouched < sizeof stack && stack[untouched] == PAINT) untouched++;

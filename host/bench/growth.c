@@ -20,20 +20,26 @@ static double nanoseconds(void) {
   return 1e9 * (double)now.tv_sec + (double)now.tv_nsec;
 }
 
+static void accepted(uint32_t code) {
+  if (code < GORAVESHA_REFUSED) return;
+  fprintf(stderr, "growth: %s\n", goravesha_text(code));
+  exit(EXIT_FAILURE);
+}
+
 static uint32_t run_out(uint32_t worker) {
-  while (goravesha_step(words, count, worker, &answer) == GORAVESHA_RUNNING) {}
+  accepted(goravesha_finish(words, count, worker, &answer));
   return (uint32_t)answer.steps;
 }
 
 static void fill(uint32_t workers, uint32_t items, uint32_t changes) {
   count = GORAVESHA_WORDS(workers, items, 4096);
-  goravesha_make(words, count, workers, items, 4096, 4, 1000, &answer);
-  for (uint32_t i = 0; i < items; i++) goravesha_register(words, count, 1, 100, &answer);
+  accepted(goravesha_make(words, count, workers, items, 4096, 4, 1000, &answer));
+  for (uint32_t i = 0; i < items; i++) accepted(goravesha_register(words, count, 1, 100, &answer));
   for (uint32_t round = 0; round <= changes; round++) {
-    goravesha_start_take_snapshot(words, count, 0, &answer);
+    accepted(goravesha_start_take_snapshot(words, count, 0, &answer));
     run_out(0);
     for (uint32_t i = 0; i < items && round < changes; i++) {
-      goravesha_start_vcas(words, count, 0, i, 1 + round % 2, 2 - round % 2, &answer);
+      accepted(goravesha_start_vcas(words, count, 0, i, 1 + round % 2, 2 - round % 2, &answer));
       run_out(0);
     }
   }
@@ -52,8 +58,8 @@ static double median_of(uint32_t workers, int total, uint32_t *steps) {
     double from = nanoseconds();
     for (int t = 0; t < times; t++) {
       uint32_t worker = (uint32_t)t % workers;
-      if (total) goravesha_start_total(words, count, worker, 1, 0, &answer);
-      else goravesha_start_read_snapshot(words, count, worker, 0, 0, &answer);
+      if (total) accepted(goravesha_start_total(words, count, worker, 1, 0, &answer));
+      else accepted(goravesha_start_read_snapshot(words, count, worker, 0, 0, &answer));
       *steps = run_out(worker);
     }
     spent[i] = (nanoseconds() - from) / times;

@@ -38,9 +38,11 @@ static uint32_t words[GORAVESHA_WORDS(64, 256, 4096)];
 static goravesha_answer answer;
 static uint32_t started, finished, busy_with[RELINKERS];
 
+static void accepted(uint32_t code) { check(code == GORAVESHA_ACCEPTED, goravesha_text(code)); }
+
 static void catalogue_open(void) {
-  check(goravesha_make(words, COUNT, WORKERS, ITEMS, NODES, PROJECTS, 1000, &answer) == GORAVESHA_ACCEPTED, "make");
-  for (uint32_t i = 0; i < ITEMS; i++) goravesha_register(words, COUNT, linked[i], size_of(i), &answer);
+  accepted(goravesha_make(words, COUNT, WORKERS, ITEMS, NODES, PROJECTS, 1000, &answer));
+  for (uint32_t i = 0; i < ITEMS; i++) accepted(goravesha_register(words, COUNT, linked[i], size_of(i), &answer));
 }
 
 /* A turn of one relinker: a step, or the start of its next relink. */
@@ -49,7 +51,7 @@ static void relinker_turn(uint32_t worker) {
     /* An item's next relink starts when the one before has ended: RELINKERS is less than ITEMS. */
     if (started == RELINKS) return;
     uint32_t item = nth_item(started++);
-    goravesha_start_vcas(words, COUNT, worker, item, linked[item], next_project(linked[item]), &answer);
+    accepted(goravesha_start_vcas(words, COUNT, worker, item, linked[item], next_project(linked[item]), &answer));
     busy_with[worker] = item + 1;
   } else if (goravesha_step(words, COUNT, worker, &answer) == GORAVESHA_FINISHED) {
     uint32_t item = busy_with[worker] - 1;
@@ -63,11 +65,11 @@ static void relinker_turn(uint32_t worker) {
 static void catalogue_job(uint64_t *sums) {
   uint32_t turn = 0;
   started = finished = 0;
-  goravesha_start_take_snapshot(words, COUNT, REPORTER, &answer);
-  while (goravesha_step(words, COUNT, REPORTER, &answer) == GORAVESHA_RUNNING) {}
+  accepted(goravesha_start_take_snapshot(words, COUNT, REPORTER, &answer));
+  check(goravesha_finish(words, COUNT, REPORTER, &answer) == GORAVESHA_FINISHED, "the snapshot");
   uint32_t handle = (uint32_t)answer.value;
   for (uint32_t project = 0; project < PROJECTS; project++) {
-    goravesha_start_total(words, COUNT, REPORTER, project, handle, &answer);
+    accepted(goravesha_start_total(words, COUNT, REPORTER, project, handle, &answer));
     while (goravesha_step(words, COUNT, REPORTER, &answer) == GORAVESHA_RUNNING) {
       relinker_turn(turn);
       relinker_turn(turn);

@@ -1,14 +1,19 @@
 //! A thin safe wrapper of the proved catalogue (include/goravesha.h has each call's promise).
 //!
 //! The state stands in words that the caller lends for as long as the [`Catalogue`] lives. Any words may be lent: those that are no catalogue are
-//! refused with number 2 by every call. Every refusal is a [`Refused`] with document 01's number.
+//! refused as [`Reason::Damaged`] by every call. Every refusal is a [`Refused`], whose [`Reason`] has the header's name, number and sentence.
+//!
+//! The exclusive borrow keeps calls one after the other. From threads, put the catalogue into a `Mutex`: examples/threads.rs.
 #![deny(missing_docs)]
+
+mod reason;
+pub use reason::{Reason, Refused};
 
 mod ffi {
     pub type Numbers = [u64; 4];
     extern "C" {
         pub fn goravesha_make(words: *mut u32, count: usize, workers: u32, items: u32, nodes: u32, projects: u32, counter: u32, answer: *mut Numbers) -> u32;
-        pub fn goravesha_register(words: *mut u32, count: usize, value: u32, size: u32, answer: *mut Numbers) -> u32;
+        pub fn goravesha_register(words: *mut u32, count: usize, project: u32, size: u32, answer: *mut Numbers) -> u32;
         pub fn goravesha_start_vread(words: *mut u32, count: usize, worker: u32, item: u32, answer: *mut Numbers) -> u32;
         pub fn goravesha_start_vcas(words: *mut u32, count: usize, worker: u32, item: u32, old: u32, new: u32, answer: *mut Numbers) -> u32;
         pub fn goravesha_start_take_snapshot(words: *mut u32, count: usize, worker: u32, answer: *mut Numbers) -> u32;
@@ -39,23 +44,6 @@ impl Sizes {
         16 + 16 * self.workers as usize + 4 * self.items as usize + 3 * self.nodes as usize
     }
 }
-
-/// A refusal, by document 01's number. Steps are 0 but where 11 or 12 ended an operation in a step.
-#[derive(Clone, Copy, Debug, PartialEq, Eq)]
-pub struct Refused {
-    /// 1 to 12.
-    pub number: u32,
-    /// The operation's steps, where this refusal ended it.
-    pub steps: u64,
-}
-
-impl std::fmt::Display for Refused {
-    fn fmt(&self, f: &mut std::fmt::Formatter<'_>) -> std::fmt::Result {
-        write!(f, "refused with number {}", self.number)
-    }
-}
-
-impl std::error::Error for Refused {}
 
 /// What a step came to.
 #[derive(Clone, Copy, Debug, PartialEq, Eq)]
@@ -89,7 +77,7 @@ impl<'w> Catalogue<'w> {
         Ok(catalogue)
     }
 
-    /// The catalogue that stands in these words already; where none does, its calls are refused with 2.
+    /// The catalogue that stands in these words already; where none does, its calls are refused as [`Reason::Damaged`].
     pub fn over(words: &'w mut [u32]) -> Self {
         Catalogue { words }
     }
@@ -99,9 +87,9 @@ impl<'w> Catalogue<'w> {
         self.words
     }
 
-    /// A new item; its number.
-    pub fn register(&mut self, value: u32, size: u32) -> Result<u32, Refused> {
-        let (_, numbers) = self.call(|w, n, a| unsafe { ffi::goravesha_register(w, n, value, size, a) })?;
+    /// A new item, charged to a project, of so many MiB; its number.
+    pub fn register(&mut self, project: u32, size: u32) -> Result<u32, Refused> {
+        let (_, numbers) = self.call(|w, n, a| unsafe { ffi::goravesha_register(w, n, project, size, a) })?;
         Ok(numbers[0] as u32)
     }
 
@@ -136,7 +124,7 @@ impl<'w> Catalogue<'w> {
         Ok(if code == 0 { Step::Finished { value, steps } } else { Step::Running { steps } })
     }
 
-    /// Steps of a worker until its operation answers: the value and the steps.
+    /// Steps of a worker until its operation answers: the value and the steps. It ends on any words, within 5,121 steps.
     pub fn finish(&mut self, worker: u32) -> Result<(u64, u64), Refused> {
         loop {
             if let Step::Finished { value, steps } = self.step(worker)? {
@@ -150,7 +138,7 @@ impl<'w> Catalogue<'w> {
         let mut numbers = [0; 4];
         let code = call(self.words.as_mut_ptr(), self.words.len(), &mut numbers);
         if code >= 16 {
-            return Err(Refused { number: code - 16, steps: numbers[1] });
+            return Err(Refused { reason: Reason::of(code - 16), steps: numbers[1] });
         }
         Ok((code, numbers))
     }

@@ -1,10 +1,10 @@
 // The wrapper: document 01's listing, some of its runs, and words that are no catalogue.
-use goravesha::{Catalogue, Refused, Sizes, Step};
+use goravesha::{Catalogue, Reason, Refused, Sizes, Step};
 
 const SIZES: Sizes = Sizes { workers: 2, items: 2, nodes: 8, projects: 4, counter: 16 };
 
-fn refused<T>(number: u32) -> Result<T, Refused> {
-    Err(Refused { number, steps: 0 })
+fn refused<T>(reason: Reason) -> Result<T, Refused> {
+    Err(Refused { reason, steps: 0 })
 }
 
 #[test]
@@ -44,23 +44,25 @@ fn a_total_and_the_same_again() {
 #[test]
 fn refusals() {
     let mut words = vec![0; SIZES.words()];
-    assert!(matches!(Catalogue::make(&mut words[1..], SIZES), Err(Refused { number: 1, steps: 0 })));
+    assert!(matches!(Catalogue::make(&mut words[1..], SIZES), Err(Refused { reason: Reason::BadSize, steps: 0 })));
     let mut c = Catalogue::make(&mut words, Sizes { nodes: 1, counter: 1, ..SIZES }).unwrap();
-    assert_eq!(c.step(0), refused(5));
-    assert_eq!(c.step(2), refused(3));
-    assert_eq!(c.start_vread(0, 0), refused(6));
-    assert_eq!(c.register(4, 1), refused(7));
+    assert_eq!(c.step(0), refused(Reason::WorkerIdle));
+    assert_eq!(c.step(2), refused(Reason::NoSuchWorker));
+    assert_eq!(c.start_vread(0, 0), refused(Reason::NotRegistered));
+    assert_eq!(c.register(4, 1), refused(Reason::NoSuchProject));
     assert_eq!(c.register(1, 1), Ok(0));
-    assert_eq!(c.register(1, 1), refused(11));
-    assert_eq!(c.start_total(0, 1, 0), refused(8));
+    assert_eq!(c.register(1, 1), refused(Reason::NodesFull));
+    assert_eq!(c.start_total(0, 1, 0), refused(Reason::NoSuchHandle));
     c.start_vcas(0, 0, 1, 2).unwrap();
-    assert_eq!(c.start_vread(0, 0), refused(4));
-    assert_eq!(c.finish(0), Err(Refused { number: 11, steps: 4 }));
+    assert_eq!(c.start_vread(0, 0), refused(Reason::WorkerBusy));
+    assert_eq!(c.finish(0), Err(Refused { reason: Reason::NodesFull, steps: 4 }));
     c.start_take_snapshot(1).unwrap();
     assert_eq!(c.finish(1), Ok((0, 2)));
     c.start_take_snapshot(1).unwrap();
-    assert_eq!(c.finish(1), Err(Refused { number: 12, steps: 1 }));
-    assert_eq!(c.start_read_snapshot(0, 0, 1), refused(8));
+    assert_eq!(c.finish(1), Err(Refused { reason: Reason::CounterFull, steps: 1 }));
+    assert_eq!(c.start_read_snapshot(0, 0, 1), refused(Reason::NoSuchHandle));
+    let said = c.step(0).unwrap_err().to_string();
+    assert_eq!(said, "refused with number 5: The worker is idle; start an operation first.");
 }
 
 #[test]
@@ -68,8 +70,8 @@ fn words_that_are_no_catalogue() {
     for length in [0, 1, 15, 16, 100] {
         let mut words = vec![u32::MAX; length];
         let mut c = Catalogue::over(&mut words);
-        assert_eq!(c.register(0, 0), refused(2));
-        assert_eq!(c.step(0), refused(2));
+        assert_eq!(c.register(0, 0), refused(Reason::Damaged));
+        assert_eq!(c.step(0), refused(Reason::Damaged));
         assert!(words.iter().all(|word| *word == u32::MAX));
     }
 }
