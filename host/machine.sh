@@ -1,18 +1,55 @@
+# shellcheck shell=bash
 # Sourced, from the repository's root: how the host's programs are built and run on this machine. The archive and the programs of the kit are for x86-64. On
 # another machine (the kit also proves on Arm) the host's are built by a C compiler for x86-64, and all are run under the emulator that the kit has there.
-if [ "$(uname -m)" = x86_64 ]; then
+machine=$(uname -m 2> /dev/null || echo x86_64)   # without uname, `needs` below ends the script
+if [ "$machine" = x86_64 ]; then
   native=yes
   compiler=${CC:-gcc}
 else
   native=no
   compiler=${CC:-x86_64-linux-gnu-gcc}
-  toolchain=${RATTLE_HOME:-$(dirname "$(dirname "$(readlink -f "$(command -v rt)")")")}/on/$(uname -m)/toolchain
+  if kit=$(command -v rt); then toolchain=${RATTLE_HOME:-$(dirname "$(dirname "$(readlink -f "$kit")")")}/on/$machine/toolchain; fi
 fi
+
+# what_to_install PROGRAM: prints where it comes from
+what_to_install() {
+  case $1 in
+  rt) echo "the Rattle kit, its folder bin on PATH" ;;
+  x86_64-linux-gnu-gcc) echo "a C compiler for x86-64; Debian: apt-get install gcc-x86-64-linux-gnu libc6-dev-amd64-cross; or CC=.." ;;
+  "$compiler") echo "a C compiler; Debian: apt-get install gcc libc6-dev; or CC=.." ;;
+  bash | python3 | sed) echo "Debian: apt-get install $1" ;;
+  find) echo "Debian: apt-get install findutils" ;;
+  cmp) echo "Debian: apt-get install diffutils" ;;
+  *) echo "Debian: apt-get install coreutils" ;;
+  esac
+}
+
+# needs PROGRAM..: where one is missing, ends the script with one line that names it and what to install. Called before a script does anything;
+# it uses no program itself.
+needs() {
+  local program missing=
+  for program in "$@"; do
+    command -v "$program" > /dev/null || missing="$missing${missing:+; }$program ($(what_to_install "$program"))"
+  done
+  if [ -z "$missing" ]; then return; fi
+  echo "missing: $missing. Nothing was done." >&2
+  exit 1
+}
+
+# wants_packages PACKAGE..: says how to get Debian's packages, and fails. Nothing is installed unasked: only INSTALL_MISSING=yes has it install them, as root.
+wants_packages() {
+  local install="apt-get install -y --no-install-recommends $*"
+  if [ "${INSTALL_MISSING:-}" != yes ]; then
+    echo "missing: Debian's $* ('$install', as root, installs them; INSTALL_MISSING=yes has it done here)"
+    return 1
+  fi
+  DEBIAN_FRONTEND=noninteractive timeout 300 sh -c "$install || { apt-get update && $install; }" > /dev/null
+}
 
 # Says what is missing, and fails, where there is no compiler for x86-64.
 has_compiler() {
   command -v "$compiler" > /dev/null && return
-  echo "there is no $compiler here: a C compiler for x86-64 (Debian, on Arm: gcc-x86-64-linux-gnu libc6-dev-amd64-cross; or CC=..)"
+  echo "there is no $compiler here ($(what_to_install "$compiler"))"
   return 1
 }
 

@@ -1,13 +1,15 @@
 #!/usr/bin/env bash
-# usage: bash host/bench/figures.sh [pairs]: every figure of docs/PERFORMANCE.md anew, into target/bench/. As root it installs what it needs from Debian.
+# usage: bash host/bench/figures.sh [pairs]: every figure of docs/PERFORMANCE.md anew, into target/bench/. What is missing is said first;
+# INSTALL_MISSING=yes has it installed from Debian, as root.
 set -eu
 cd "$(dirname "$0")/../.."
 if [ "$(uname -m)" != x86_64 ]; then echo "to be run on x86-64: under an emulator a time says nothing" >&2; exit 2; fi
 pairs=${1:-101}
-needed=(gcc clang valgrind liblmdb-dev libsqlite3-dev python3)
+. host/machine.sh
 missing=()
-for package in "${needed[@]}"; do dpkg -s "$package" > /dev/null 2>&1 || missing+=("$package"); done
-if [ ${#missing[@]} -gt 0 ] && [ "$(id -u)" = 0 ]; then apt-get install -y "${missing[@]}" > /dev/null; fi
+for program in gcc clang valgrind python3; do command -v "$program" > /dev/null || missing+=("$program"); done
+for library in lmdb sqlite3; do echo "#include <$library.h>" | gcc -E - > /dev/null 2>&1 || missing+=("lib$library-dev"); done
+if [ ${#missing[@]} -gt 0 ]; then wants_packages "${missing[@]}" >&2 || exit 2; fi
 archive=target/staticlib/libcatalogue.a
 bash host/archive.sh
 out=target/bench
