@@ -52,7 +52,7 @@
  *            most P). N - goravesha_nodes_used(words, count) nodes are left. A service that starts a relink only while P or more are left is never
  *            refused with 11 in a step.
  *   Handles  each snapshot uses up one of the C handles (those taken at the same time may share one). C - goravesha_counter(words, count) are
- *            left. C costs no memory: take the largest unless you want a limit.
+ *            left. C costs no memory: take the largest unless you want a limit, or a recording (goravesha_record.h: C at most 65,535).
  *   At 11 and 12  finish what is under way, make a new catalogue in other words, and register each item anew with its present project (a vRead in
  *            the old one). Old handles count in the old catalogue alone. It still answers vRead, readSnapshot and total: keep its words while its
  *            pages are asked for. At 12 relinks go on as before; at 11 snapshots do.

@@ -15,13 +15,16 @@ version=$(sed -n 's/^#define GORAVESHA_VERSION "\([0-9.]*\)"$/\1/p' include/gora
 
 installs() { # FOLDER PREFIX [LIBDIR [PROGRAM_PREFIX]]: all stands in FOLDER, and the pkg-config file says PREFIX and LIBDIR
   local folder=$1 libdir=${3:-lib} before=${4:-} program
-  for file in include/goravesha.h "$libdir/libgoravesha.a" "$libdir/pkgconfig/goravesha.pc" share/doc/goravesha/README.md \
-    share/doc/goravesha/docs/FIELDS.md share/goravesha/examples/example.c share/goravesha/tools/timeline.py share/goravesha/rust/Cargo.toml; do [ -f "$folder/$file" ] || fail "no $folder/$file"; done
+  for file in include/goravesha.h include/goravesha_record.h "$libdir/libgoravesha.a" "$libdir/pkgconfig/goravesha.pc" share/doc/goravesha/README.md \
+    share/doc/goravesha/docs/FIELDS.md share/goravesha/examples/example.c share/goravesha/tools/timeline.py share/goravesha/tools/explain.py share/goravesha/tools/dump.py share/goravesha/rust/Cargo.toml; do [ -f "$folder/$file" ] || fail "no $folder/$file"; done
   for line in "prefix=$2" "libdir=\${prefix}/$libdir" "Version: $version"; do
     grep -qxF "$line" "$folder/$libdir/pkgconfig/goravesha.pc" || fail "$folder/$libdir/pkgconfig/goravesha.pc does not say $line"
   done
   for program in schedule soak; do
-    if [ -f "target/bin/$program" ]; then cmp "target/bin/$program" "$folder/bin/$before$program" || fail "no $folder/bin/$before$program"; fi
+    if [ -f "target/bin/$program" ]; then
+      cmp "target/bin/$program" "$folder/bin/$before$program" || fail "no $folder/bin/$before$program"
+      cmp "tools/$program-status" "$folder/bin/$before$program-status" || fail "no $folder/bin/$before$program-status"
+    fi
     # a man page stands there exactly where its program does
     if [ -f "$folder/bin/$before$program" ]; then [ -f "$folder/share/man/man1/$before$program.1" ] || fail "no page of $program"
     elif [ -f "$folder/share/man/man1/$before$program.1" ]; then fail "a page of $program without the program"; fi
