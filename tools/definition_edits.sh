@@ -1,8 +1,8 @@
 #!/usr/bin/env bash
 # usage: bash tools/definition_edits.sh [NAME..]: puts each edit of tools/definition_edits into a copy of the crates, alone, and has the crate checked that its line
 # 'by:' names: reached, which ties every call of the words to the machine that demands 2 and 3 are proved of; history, the machine's own theorems; or runs, the
-# fifteen runs. All below it must still be proved, and it must be refused, by an error in its own files; and without an edit all must be proved. rt's own must-fail
-# edits cannot show this, since they check the edited crate alone. Two are tried at a time.
+# fifteen runs and the refusals on any words. All below it must still be proved, and it must be refused, by an error in its own files; and without an edit all
+# must be proved. rt's own must-fail edits cannot show this, since they check the edited crate alone. Two are tried at a time.
 set -eu
 cd "$(dirname "$0")/.."
 
