@@ -42,13 +42,14 @@ for job in $(seq 0 14); do
 done
 
 # (c) the job a room has; in memory without synchronising, and the report alone.
-gcc -O2 "${flags[@]}" host/bench/room.c "$archive" -llmdb -lsqlite3 -o "$out/room"
-gcc -O2 "${flags[@]}" -DRELINKS=0 host/bench/room.c "$archive" -llmdb -lsqlite3 -o "$out/room-report"
+gcc -O2 "${flags[@]}" host/bench/room.c host/bench/databases.c "$archive" -llmdb -lsqlite3 -o "$out/room"
+gcc -O2 "${flags[@]}" -DRELINKS=0 host/bench/room.c host/bench/databases.c "$archive" -llmdb -lsqlite3 -o "$out/room-report"
 memory=$(mktemp -d -p /dev/shm)
 trap 'rm -rf "$memory"' EXIT
 { echo "the room's job, databases in memory, no synchronising"; "$out/room" "$memory" 101; } | tee "$out/room.txt"
 { echo "the report alone"; "$out/room-report" "$memory" 101; } | tee -a "$out/room.txt"
 { echo "the room's job, databases on disk, synchronising as by default (LMDB) and NORMAL (SQLite)"; "$out/room" "$out" 3 durable; } | tee -a "$out/room.txt"
+bash host/bench/threads.sh
 
 # (d) growth.
 gcc -O2 "${flags[@]}" host/bench/growth.c "$archive" -o "$out/growth"

@@ -4,33 +4,21 @@
  *
  * usage: room FOLDER [repeats] [durable]: the databases are made in FOLDER; 'durable' leaves their synchronising on, else it is off
  */
+#include "databases.h"
 #include "goravesha.h"
+#include "room.h"
 
-#include <lmdb.h>
-#include <sqlite3.h>
-#include <stdio.h>
-#include <stdlib.h>
 #include <string.h>
-#include <time.h>
 
 #ifndef RELINKS
 #define RELINKS 1280 /* 0: the report alone */
 #endif
-enum { RELINKERS = 63, REPORTER = 63, WORKERS = 64, ITEMS = 256, PROJECTS = 8, NODES = 4096 };
+enum { RELINKERS = 63, REPORTER = 63, WORKERS = 64, NODES = 4096 };
 static const size_t COUNT = GORAVESHA_WORDS(WORKERS, ITEMS, NODES);
-
-static uint32_t size_of(uint32_t item) { return 100 + item; }
 
 /* Which item the n-th relink moves, and where to: item after item, each to its next project. */
 static uint32_t linked[ITEMS];
 static uint32_t nth_item(uint32_t n) { return n % ITEMS; }
-static uint32_t next_project(uint32_t project) { return (project + 1) % PROJECTS; }
-
-static void check(int good, const char *what) {
-  if (good) return;
-  fprintf(stderr, "room: %s\n", what);
-  exit(EXIT_FAILURE);
-}
 
 /* The catalogue. */
 
@@ -80,115 +68,43 @@ static void catalogue_job(uint64_t *sums) {
   for (; finished != RELINKS; turn = (turn + 1) % RELINKERS) relinker_turn(turn);
 }
 
-/* LMDB: item number to project and size. */
+/* The databases: an equal part of the relinks after each record or row of the report. */
 
-static MDB_env *env;
-static MDB_dbi items_by_number;
+static struct connection reader, writer;
+static uint32_t done;
 
-static void lmdb_put(MDB_txn *txn, uint32_t item, uint32_t project) {
-  uint32_t record[2] = {project, size_of(item)};
-  MDB_val key = {sizeof item, &item}, data = {sizeof record, record};
-  check(mdb_put(txn, items_by_number, &key, &data, 0) == 0, "LMDB put");
+static void relink_some(uint32_t relinks, void (*relink)(uint32_t, uint32_t, uint32_t)) {
+  for (; relinks > 0; relinks--) {
+    uint32_t item = nth_item(done++), from = linked[item];
+    linked[item] = next_project(from);
+    relink(item, from, linked[item]);
+  }
 }
 
-static void lmdb_open(const char *folder, int durable) {
-  char path[4096];
-  MDB_txn *txn;
-  snprintf(path, sizeof path, "%s/room.lmdb", folder);
-  remove(path);
-  check(mdb_env_create(&env) == 0 && mdb_env_set_mapsize(env, 64 << 20) == 0, "LMDB");
-  check(mdb_env_open(env, path, MDB_NOSUBDIR | (durable ? 0 : MDB_NOSYNC | MDB_WRITEMAP), 0600) == 0, "LMDB open");
-  check(mdb_txn_begin(env, NULL, 0, &txn) == 0 && mdb_dbi_open(txn, NULL, MDB_INTEGERKEY | MDB_CREATE, &items_by_number) == 0, "LMDB table");
-  for (uint32_t i = 0; i < ITEMS; i++) lmdb_put(txn, i, linked[i]);
-  check(mdb_txn_commit(txn) == 0, "LMDB commit");
-}
-
-static void lmdb_relink(uint32_t item) {
-  MDB_txn *txn;
-  MDB_val key = {sizeof item, &item}, data;
-  check(mdb_txn_begin(env, NULL, 0, &txn) == 0 && mdb_get(txn, items_by_number, &key, &data) == 0, "LMDB get");
-  check(*(uint32_t *)data.mv_data == linked[item], "LMDB: another project");
-  linked[item] = next_project(linked[item]);
-  lmdb_put(txn, item, linked[item]);
-  check(mdb_txn_commit(txn) == 0, "LMDB commit");
-}
+static void lmdb_part(void) { relink_some(RELINKS / ITEMS, lmdb_relink); }
 
 static void lmdb_job(uint64_t *sums) {
-  MDB_txn *txn;
-  MDB_cursor *cursor;
-  MDB_val key, data;
-  uint32_t done = 0;
-  check(mdb_txn_begin(env, NULL, MDB_RDONLY, &txn) == 0 && mdb_cursor_open(txn, items_by_number, &cursor) == 0, "LMDB read");
-  while (mdb_cursor_get(cursor, &key, &data, MDB_NEXT) == 0) {
-    uint32_t record[2];
-    memcpy(record, data.mv_data, sizeof record);
-    sums[record[0]] += record[1];
-    for (int i = 0; i < RELINKS / ITEMS; i++) lmdb_relink(nth_item(done++));
-  }
-  mdb_cursor_close(cursor);
-  mdb_txn_abort(txn);
+  done = 0;
+  lmdb_report(sums, lmdb_part);
 }
 
-/* SQLite in WAL mode: one connection reads, another writes. */
-
-static sqlite3 *reader, *writer;
-static sqlite3_stmt *report, *update;
-
-static void sql(sqlite3 *db, const char *text) { check(sqlite3_exec(db, text, NULL, NULL, NULL) == SQLITE_OK, text); }
-
-static void sqlite_open(const char *folder, int durable) {
-  char path[4096];
-  static const char *const tail[3] = {"", "-wal", "-shm"};
-  for (int i = 0; i < 3; i++) snprintf(path, sizeof path, "%s/room.sqlite%s", folder, tail[i]), remove(path);
-  snprintf(path, sizeof path, "%s/room.sqlite", folder);
-  check(sqlite3_open(path, &writer) == SQLITE_OK && sqlite3_open(path, &reader) == SQLITE_OK, "SQLite open");
-  sql(writer, "PRAGMA journal_mode=WAL");
-  sql(writer, durable ? "PRAGMA synchronous=NORMAL" : "PRAGMA synchronous=OFF");
-  sql(writer, "CREATE TABLE item(number INTEGER PRIMARY KEY, project INTEGER, size INTEGER)");
-  sql(writer, "BEGIN");
-  for (uint32_t i = 0; i < ITEMS; i++) {
-    char text[128];
-    snprintf(text, sizeof text, "INSERT INTO item VALUES(%u,%u,%u)", i, linked[i], size_of(i));
-    sql(writer, text);
-  }
-  sql(writer, "COMMIT");
-  check(sqlite3_prepare_v2(reader, "SELECT project, sum(size) FROM item GROUP BY project", -1, &report, NULL) == SQLITE_OK, "SQLite report");
-  check(sqlite3_prepare_v2(writer, "UPDATE item SET project=?1 WHERE number=?2 AND project=?3", -1, &update, NULL) == SQLITE_OK, "SQLite update");
-}
-
-static void sqlite_relink(uint32_t item) {
-  sqlite3_bind_int64(update, 1, next_project(linked[item]));
-  sqlite3_bind_int64(update, 2, item);
-  sqlite3_bind_int64(update, 3, linked[item]);
-  check(sqlite3_step(update) == SQLITE_DONE && sqlite3_changes(writer) == 1, "SQLite update");
-  sqlite3_reset(update);
-  linked[item] = next_project(linked[item]);
-}
+static void sqlite_write(uint32_t item, uint32_t from, uint32_t to) { sqlite_relink(&writer, item, from, to); }
+static void sqlite_part(void) { relink_some(RELINKS / PROJECTS, sqlite_write); }
 
 static void sqlite_job(uint64_t *sums) {
-  uint32_t done = 0;
-  while (sqlite3_step(report) == SQLITE_ROW) {
-    sums[sqlite3_column_int64(report, 0)] = (uint64_t)sqlite3_column_int64(report, 1);
-    for (int i = 0; i < RELINKS / PROJECTS; i++) sqlite_relink(nth_item(done++));
-  }
-  sqlite3_reset(report);
+  done = 0;
+  sqlite_report(&reader, sums, sqlite_part);
   check(done == RELINKS, "SQLite: projects without an item");
-}
-
-static int ascending(const void *a, const void *b) {
-  double x = *(const double *)a, y = *(const double *)b;
-  return (x > y) - (x < y);
 }
 
 static double timed_job(void (*job)(uint64_t *)) {
   uint64_t sums[PROJECTS] = {0}, right[PROJECTS] = {0};
-  struct timespec from, to;
   for (uint32_t i = 0; i < ITEMS; i++) right[linked[i]] += size_of(i);
-  clock_gettime(CLOCK_MONOTONIC, &from);
+  double from = microseconds();
   job(sums);
-  clock_gettime(CLOCK_MONOTONIC, &to);
+  double to = microseconds();
   check(memcmp(sums, right, sizeof sums) == 0, "the sums are not those at the snapshot");
-  return 1e6 * (double)(to.tv_sec - from.tv_sec) + 1e-3 * (double)(to.tv_nsec - from.tv_nsec);
+  return to - from;
 }
 
 int main(int arguments, char **argument) {
@@ -199,8 +115,10 @@ int main(int arguments, char **argument) {
   uint32_t start[ITEMS], side[3][ITEMS];
   for (uint32_t i = 0; i < ITEMS; i++) start[i] = i % PROJECTS;
   memcpy(linked, start, sizeof linked);
-  lmdb_open(argument[1], durable);
-  sqlite_open(argument[1], durable);
+  lmdb_open(argument[1], durable, start);
+  sqlite_make(argument[1], start);
+  reader = sqlite_connect(argument[1], durable);
+  writer = sqlite_connect(argument[1], durable);
   for (int which = 0; which < 3; which++) memcpy(side[which], start, sizeof start);
   for (int i = 0; i < repeats; i++) {
     for (int which = 0; which < 3; which++) {
