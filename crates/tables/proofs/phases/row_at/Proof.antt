@@ -1,6 +1,7 @@
 use mathlib.Core.Path.{_≡_, refl}
+use mathlib.Core.Bool.{cond}
 use mathlib.Core.List.{List, [], _∷_}
-use Prim.Native.Nat.{ℕ, zero, suc, _/_, _%_}
+use Prim.Native.Nat.{ℕ, zero, suc, _+_, _*_, _/_, _%_}
 use lib.Dec.{eqb}
 use lib.ListN.{getD}
 use Rattle.definitions.specs.declared.PhaseRow.{PhaseRow}
@@ -24,8 +25,10 @@ entry [] k = refl
 entry (e ∷ es) zero = refl
 entry (e ∷ es) (suc k) = entry es k
 
-packed : List ℕ
-packed = 0 ∷ 293 ∷ 276 ∷ 277 ∷ 278 ∷ 423 ∷ 553 ∷ 532 ∷ 533 ∷ 534 ∷ 683 ∷ 557 ∷ 558 ∷ 532 ∷ 533 ∷ 534 ∷ 688 ∷ 562 ∷ 563 ∷ 532 ∷ 533 ∷ 534 ∷ 692 ∷ 773 ∷ 902 ∷ 1056 ∷ 1044 ∷ 1045 ∷ 1046 ∷ 1186 ∷ 1312 ∷ 1300 ∷ 1301 ∷ 1302 ∷ 1314 ∷ 1408 ∷ []
+-- The definitions' table as the code has it.
+abbrev all-packed : List PhaseRow → List ℕ
+all-packed [] = []
+all-packed (r ∷ rs) = (256 * r .operation + r .line + cond (r .«may_answer») 128 0) ∷ all-packed rs
 
 -- src/phases.rt:13:13
 mul-entry : tie.Need-mul-entry
@@ -45,8 +48,8 @@ cast-line c = search needs
 
 -- src/phases.rt:9:1
 returns : tie.Need-returns
-unfolding table row-of packed
-returns c = entry packed (c .args .phase)
+unfolding table row-of
+returns c = entry (all-packed table) (c .args .phase)
 
 pub row-at-spec : {M : Type 1} → statement M
 row-at-spec = tie.close (tie.spec mul-entry array-read-entry cast-operation cast-line returns)
