@@ -1,6 +1,7 @@
 /*
  * An example service with threads: three threads relink thirty items between projects, a fourth keeps printing the room's page. One mutex stands
- * around the calls, and is let go after every step, so the page's totals and the relinks go on side by side. Each page adds up all the same.
+ * around the calls, and is let go after every step, so the page's totals and the relinks go on side by side. Each page adds up all the same. (To show
+ * that. A service in a hurry holds it for a whole relink, and for some 16 calls of a page: see goravesha.h.)
  *
  * build: cc example_threads.c $(pkg-config --cflags --libs goravesha) -pthread
  */

@@ -26,8 +26,7 @@ static unsigned checks, wrong;
 static void expect(const char *what, uint64_t got, uint64_t wanted) {
   checks++;
   if (got == wanted) return;
-  fprintf(stderr, "header: %s: %llu, expected %llu\n", what, (unsigned long long)got, (unsigned long long)wanted);
-  wrong++;
+  if (wrong++ < 20) fprintf(stderr, "header: %s: %llu, expected %llu\n", what, (unsigned long long)got, (unsigned long long)wanted);
 }
 
 static void expect_answer(const char *what, uint32_t code, uint32_t wanted, uint64_t value, uint64_t steps) {
@@ -239,7 +238,8 @@ static void too_few(void) {
   expect_answer("finish with all words", finish(2), GORAVESHA_FINISHED, 1, 9);
 }
 
-/* Relinks of two items by all workers, in an order drawn at random, each started only while P or more nodes are left: none is refused with 11. */
+/* Relinks of two items by all workers, in an order drawn at random, each started only while P or more nodes are left, and registers among them while more
+   than P are left: no step is refused with 11. */
 static void looked_before_each_relink(void) {
   enum { MOST_TURNS = 10000 };
   uint32_t drawn = 7;
@@ -251,6 +251,8 @@ static void looked_before_each_relink(void) {
       uint32_t worker = (drawn >> 16) % WORKERS, item = drawn >> 31;
       left = NODES - goravesha_nodes_used(words, count);
       if (goravesha_busy(words, count, worker)) expect("no refusal in a step", goravesha_step(words, count, worker, &answer) < GORAVESHA_REFUSED, 1);
+      else if ((drawn >> 12) % 8 == 0 && left > WORKERS && goravesha_items(words, count) < ITEMS)
+        expect("a register", goravesha_register(words, count, 1, 1, &answer), GORAVESHA_ACCEPTED);
       else if (left >= WORKERS) start_vcas(worker, item, words[NODE_0 + 3 * words[16 + 16 * WORKERS + 4 * item]], 1 + (drawn >> 8) % 4);
       under_way = goravesha_busy(words, count, 0) || goravesha_busy(words, count, 1) || goravesha_busy(words, count, 2);
     }

@@ -14,7 +14,7 @@ while [ $# -gt 0 ]; do
   esac
   shift
 done
-if [ $# -gt 1 ]; then echo "one PREFIX; bash host/install.sh --help says more" >&2; exit 2; fi
+if [ $# -gt 1 ]; then echo "one PREFIX, and options before it; bash host/install.sh --help says more" >&2; exit 2; fi
 
 needed=(bash cmp find install ln realpath sed sort)
 if [ "$shared" = yes ]; then needed=("$compiler" "${needed[@]}"); fi
@@ -66,13 +66,21 @@ programs=() missing=
 for program in schedule soak; do
   if [ -f "target/bin/$program" ]; then programs+=("$program"); else missing="$missing $program"; fi
 done
-# A program of the same name that is none of ours is not written over.
-for program in "${programs[@]}"; do
-  place=$prefix/bin/${PROGRAM_PREFIX:-}$program
-  if [ ! -e "$below$place" ] || cmp -s "target/bin/$program" "$below$place" || [[ $'\n'$(printf '%s\n' "${list[@]}")$'\n' == *$'\n'"$place"$'\n'* ]]; then continue; fi
-  echo "there is another $below$place: nothing was installed. PROGRAM_PREFIX=goravesha- gives ours another name" >&2
+# What is there of the same name and none of ours is not written over: a program, its wrapper, its page.
+ours() { # FILE PLACE
+  if [ ! -e "$below$2" ] || cmp -s "$1" "$below$2" || [[ $'\n'$(printf '%s\n' "${list[@]}")$'\n' == *$'\n'"$2"$'\n'* ]]; then return; fi
+  echo "there is another $below$2: nothing was installed. PROGRAM_PREFIX=goravesha- gives ours another name" >&2
   exit 1
+}
+for program in "${programs[@]}"; do
+  name=${PROGRAM_PREFIX:-}$program
+  ours "target/bin/$program" "$prefix/bin/$name"
+  ours "tools/$program-status" "$prefix/bin/$name-status"
+  ours "docs/man/$program.1" "$prefix/share/man/man1/$name.1"
 done
+if [ "$shared" = no ] && [ -e "$below$libdir/libgoravesha.so" ]; then
+  echo "note: the shared library of an earlier install stays, and -lgoravesha takes it: --uninstall first, or --shared again"
+fi
 
 bash host/archive.sh
 if [ "$shared" = yes ]; then bash host/shared.sh target/shared > /dev/null; fi

@@ -119,7 +119,7 @@ static bool inside_an_item(const struct phase_row *row) {
 /* ---- Damaged: a word this call uses is outside its range ---- */
 
 /*
- * Four points follow document 01's own words and not docs/FIELDS.md: 'a step count below 5,121 before a step' and 'the number read at 5 below
+ * Four points are easily read more widely than document 01 writes them: 'a step count below 5,121 before a step' and 'the number read at 5 below
  * C when 6 runs' are tests of a step and of no start (before_a_step_damaged); 'stamps at most the counter or TBD' holds for a birth stamp as for a node's
  * (stamp_outside); and register, which has no line, uses of the nodes 'the first node given back' alone (first_given_back_damaged).
  */

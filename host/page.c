@@ -162,8 +162,9 @@ static int story(void) {
   int of_one_moment = adds_up(&page) && adds_up(&later) && adds_up(&again) && memcmp(&page, &again, sizeof page) == 0;
   if (of_one_moment) printf("\nThe same numbers, and on each page every clip is counted once");
   else printf("\nWRONG: a page is not of one moment");
-  printf("; %u relinks were made meanwhile, %u came too late.\n", relinked, too_late);
-  printf("%" PRIu32 " of %d nodes and %" PRIu32 " of %d handles are used.\n", goravesha_nodes_used(words, count), NODES, goravesha_counter(words, count), HANDLES);
+  printf("; %u relinks were made in all, %u came too late.\n", relinked, too_late);
+  printf("%" PRIu32 " of %d nodes (one for each clip and relink, and those that relinks under way hold) and %" PRIu32 " of %d handles are used.\n",
+         goravesha_nodes_used(words, count), NODES, goravesha_counter(words, count), HANDLES);
   return of_one_moment;
 }
 

@@ -26,7 +26,7 @@
  *    6  GORAVESHA_NOT_REGISTERED   the item number is not registered
  *    7  GORAVESHA_NO_SUCH_PROJECT  a project number is Q or more
  *    8  GORAVESHA_NO_SUCH_HANDLE   the handle is at or above the present counter
- *    9  GORAVESHA_BORN_LATER       read snapshot: the handle is below the item's birth stamp
+ *    9  GORAVESHA_BORN_LATER       read snapshot: the handle is below the item's birth stamp (in damaged words TBD, which is above every handle)
  *   10  GORAVESHA_ITEMS_FULL       register: M items exist
  *   11  GORAVESHA_NODES_FULL       register, or a vCAS at line 45: no node waits and all N were used
  *   12  GORAVESHA_COUNTER_FULL     take snapshot at line 5: the counter is C
@@ -49,8 +49,8 @@
  *
  *   Nodes    each register takes a node, and so does each relink that changes an item's project. This version gives none of them back. A vCAS
  *            that is under way may hold one more; it gives it back if it loses. So choose N at least items + relinks + changes under way (at
- *            most P). N - goravesha_nodes_used(words, count) nodes are left. A service that starts a relink only while P or more are left is never
- *            refused with 11 in a step.
+ *            most P). N - goravesha_nodes_used(words, count) nodes are left. A service that starts a relink only while P or more are left, and
+ *            registers only while more than P are left, is never refused with 11 in a step.
  *   Handles  each snapshot uses up one of the C handles (those taken at the same time may share one). C - goravesha_counter(words, count) are
  *            left. C costs no memory: take the largest unless you want a limit, or a recording (goravesha_record.h: C at most 65,535).
  *   At 11 and 12  finish what is under way, make a new catalogue in other words, and register each item anew with its present project (a vRead in
@@ -64,10 +64,10 @@
  * Threads
  *
  *   Calls on the same words come one after the other. From threads: one mutex for each catalogue, held around every call, the functions that only
- *   look included. Give each thread a worker number and a goravesha_answer of its own. Hold the mutex for one step at a time, so that others are let in
- *   between the steps of a long total; or for a start with its goravesha_finish, which is cheaper. Where no other thread wants it, a lock and
- *   unlock takes about one and a half times as long as a step (some 15 ns and 10 ns on a virtual x86-64 machine): a mutex around each call makes an
- *   operation 2.4 to 2.9 times as long, one around a whole vCAS 1.1 times, one around a whole total no longer (docs/PERFORMANCE.md).
+ *   look included. Give each thread a worker number and a goravesha_answer of its own. Hold the mutex for a whole relink, a start with its
+ *   goravesha_finish; let it go after some 16 calls of a long report, so that others are let in, and pause between reports. Where no other thread
+ *   wants it, a lock and unlock takes about one and a half times as long as a step (some 15 ns and 10 ns on a virtual x86-64 machine). Where
+ *   threads contend, a lock for each call made relinks four to five times as long as a lock for each relink (docs/PERFORMANCE.md).
  *   Where a thread ends between two steps of an operation, any other may step that worker to its end (goravesha_finish), and the worker is free again.
  *
  * Where the words may live
@@ -178,7 +178,8 @@ uint32_t goravesha_start_total(uint32_t *words, size_t count, uint32_t worker, u
 
 /*
  * One step of a worker: one line of Algorithm 1. Answers RUNNING, or FINISHED with the operation's value, and the steps so far.
- * Refusals: 2, 3, 2 (worker), 5, 2 (item), 2 (node); 11 at line 45 and 12 at line 5 end the operation.
+ * Refusals: 2, 3, 2 (worker, with its step count and at line 6 the number read at 5, which no start tests), 5, 2 (item), 2 (node); 11 at line 45
+ * and 12 at line 5 end the operation.
  */
 GORAVESHA_CHECKED(4)
 uint32_t goravesha_step(uint32_t *words, size_t count, uint32_t worker, goravesha_answer *answer);
@@ -255,7 +256,7 @@ static inline const char *goravesha_text(uint32_t code) {
     case GORAVESHA_RUNNING: return "The operation goes on; step the worker again.";
     case GORAVESHA_ACCEPTED: return "Done: the catalogue is made, the item registered or the operation started.";
     case GORAVESHA_BAD_SIZE: return "A size is outside its range, or too few words are lent; see goravesha_make and GORAVESHA_WORDS.";
-    case GORAVESHA_DAMAGED: return "The words are damaged or hold no catalogue; make a new one and look for what wrote into them.";
+    case GORAVESHA_DAMAGED: return "The words are damaged, too few or hold no catalogue; make a new one and look for what wrote into them.";
     case GORAVESHA_NO_SUCH_WORKER: return "There is no worker of this number; they are numbered from 0 to P - 1.";
     case GORAVESHA_WORKER_BUSY: return "The worker is in an operation; step it to its end first.";
     case GORAVESHA_WORKER_IDLE: return "The worker is idle; start an operation first.";

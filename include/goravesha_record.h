@@ -18,7 +18,7 @@
  * What does not fit. A frame's arguments have four digits. A number above 65,535 has no frame: a size in MiB, the counter's limit C, a handle, and what
  * is refused anyway. No wrong frame is written for it: the call is made and left out. If it was refused it changed no word, and the recording goes on. If it
  * was accepted (register, or make), all later calls are left out too, up to a make that fits and is accepted. So each frame that is written finds in
- * schedule what it found in the service. A service that is to be recorded whole makes with C at most 65,535.
+ * schedule what it found in the service. A service that is to be recorded whole makes with C at most 65,535, and registers sizes of at most 65,535 MiB.
  *
  * Where answers then differ, something else wrote into the service's words, or a call went past the recorder; with one exception: schedule lends 16,384
  * words, enough for every catalogue. A service that lends fewer than its catalogue needs is refused with 1 or 2, and schedule is not.
@@ -119,7 +119,7 @@ static inline int goravesha_record_complete(goravesha_recorder *recorder) {
 static inline void goravesha_record_report(const goravesha_recorder *recorder, FILE *to) {
   fprintf(to, "recorded: %llu of %llu calls\n", (unsigned long long)recorder->written, (unsigned long long)recorder->calls);
   if (recorder->unfit_call != 0)
-    fprintf(to, "call %llu does not fit a frame: %s %lu is above %d\n", (unsigned long long)recorder->unfit_call, recorder->unfit_argument,
+    fprintf(to, "call %llu is the first that does not fit a frame: %s %lu is above %d; where such a call is accepted, all are left out up to a make that fits\n", (unsigned long long)recorder->unfit_call, recorder->unfit_argument,
             (unsigned long)recorder->unfit_number, GORAVESHA_FRAME_LARGEST);
   if (recorder->failed) fprintf(to, "a write failed: the frames or the answers are not whole\n");
 }

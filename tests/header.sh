@@ -28,7 +28,8 @@ compile_to "$there/header" -std=c11 "${warnings[@]}" -Iinclude host/header.c "$a
 "$there/header" > "$there/said"
 if [ "$native" = yes ]; then
   compile_to "$there/header-sanitized" -std=c11 -g -fsanitize=address,undefined -fno-sanitize-recover=all "${warnings[@]}" -Iinclude host/header.c "$archive"
-  "$there/header-sanitized" > "$there/said-sanitized" && cmp "$there/said" "$there/said-sanitized"
+  "$there/header-sanitized" > "$there/said-sanitized" || fail "wrong with sanitizers"
+  cmp "$there/said" "$there/said-sanitized"
 else
   echo "not tested: the header's functions with sanitizers, since this machine emulates x86-64"
 fi
@@ -37,7 +38,8 @@ if command -v "$plus" > /dev/null; then
   alone_by "$plus" c++ c++98 c++17
   if command -v clang++ > /dev/null; then alone_by clang++ c++ c++98 c++17; fi
   compiler=$plus compile_to "$there/header-plus" -x c++ -std=c++11 "${warnings[@]}" -Iinclude host/header.c -x none "$archive"
-  "$there/header-plus" > "$there/said-plus" && cmp "$there/said" "$there/said-plus"
+  "$there/header-plus" > "$there/said-plus" || fail "wrong as C++"
+  cmp "$there/said" "$there/said-plus"
   as="as C and as C++"
 else
   echo "not tested: the header's functions as C++, since there is no $plus here"

@@ -105,12 +105,15 @@ grep -qxF "libdir=$there/apart" "$there/apart/pkgconfig/goravesha.pc" || fail "a
 bash host/install.sh --uninstall "$there/named" > /dev/null
 if [ -e "$there/named" ] || [ -e "$there/apart" ]; then fail "LIBDIR: not all was removed"; fi
 
-# A program of that name that is none of ours stays, and nothing is installed.
+# A program, a wrapper or a page of that name that is none of ours stays, and nothing is installed.
 if [ -f target/bin/schedule ]; then
-  mkdir -p "$there/taken/bin"
-  echo other > "$there/taken/bin/schedule"
-  if bash host/install.sh "$there/taken" > /dev/null 2>&1; then fail "another's program was written over"; fi
-  [ "$(files_in "$there/taken" | tr '\n' ' ')" = '. ./bin ./bin/schedule ' ] || fail "beside another's program there stands: $(files_in "$there/taken")"
+  for other in bin/schedule bin/schedule-status share/man/man1/schedule.1; do
+    rm -rf "$there/taken"
+    mkdir -p "$there/taken/${other%/*}"
+    echo other > "$there/taken/$other"
+    if bash host/install.sh "$there/taken" > /dev/null 2>&1; then fail "another's $other was written over"; fi
+    [ "$(cd "$there/taken" && find . -type f)" = "./$other" ] || fail "beside another's $other there stands: $(files_in "$there/taken")"
+  done
 fi
 
 # Help does nothing; an odd option neither, and has a status.

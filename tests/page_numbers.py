@@ -56,6 +56,19 @@ def is_of_its_moment(name, table, lines, handle, opening):
             wrong(f'{name}: "{clip}" is in {project}; it was in {left[clip]}, and on its way to {under_way}')
 
 
+def counts_are_right(lines, clips):
+    """The relinks and those that came too late are as many as are told; nodes: one for each clip and relink, and at most one for each desk's under way."""
+    text = "\n".join(lines)
+    made = len(re.findall(r'(?m)^  desk .: "[^"]+" from .+ to .+$', text))
+    late = len(re.findall(r"(?m)^  desk .: .* is no longer in .*; asks again$", text))
+    said = re.search(r"; (\d+) relinks were made in all, (\d+) came too late\.", text)
+    used = re.search(r"(?m)^(\d+) of \d+ nodes .* and (\d+) of \d+ handles are used\.$", text)
+    if not said or (int(said[1]), int(said[2])) != (made, late):
+        wrong(f"{made} relinks are told, and {late} that came too late; it says {said and said[0]}")
+    if not used or not clips + made <= int(used[1]) <= clips + made + 2 or int(used[2]) != 2:
+        wrong(f"{clips} clips, {made} relinks and two snapshots; it says {used and used[0]}")
+
+
 def main():
     lines = sys.stdin.read().split("\n")
     found = tables(lines)
@@ -71,6 +84,7 @@ def main():
         wrong("the page asked again has other numbers")
     if later == page:
         wrong("the room did not move on")
+    counts_are_right(lines, len(all_clips))
     refused = [re.match(r" +(\d+)  [^:]+: (\S.*)$", line) for line in lines[lines.index("What is refused, each by its number and in words:") + 1 :]]
     if [int(match[1]) for match in refused if match] != list(range(1, 13)):
         wrong("not each refusal from 1 to 12, in order")

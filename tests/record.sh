@@ -13,7 +13,7 @@ fail() { echo "record: $1"; exit 1; }
 warnings=(-O2 -Wall -Wextra -Wpedantic -Wconversion -Wsign-conversion -Werror -Iinclude -Ihost)
 cat > "$there/reports" << 'END'
 recorded: 7 of 9 calls
-call 3 does not fit a frame: worker 65536 is above 65535
+call 3 is the first that does not fit a frame: worker 65536 is above 65535; where such a call is accepted, all are left out up to a make that fits
 recorded: 1 of 1 calls
 a write failed: the frames or the answers are not whole
 END

@@ -15,7 +15,7 @@ def curve(name, points, at):
     yield f'<text x="{left + WIDE / 2}" y="{TOP + HIGH + 36}" text-anchor="middle">{TITLES[name]}</text>'
     for share in (0, 0.5, 1):
         yield f'<text x="{left + WIDE * share}" y="{TOP + HIGH + 16}" text-anchor="middle">{most_x * share:g}</text>'
-        yield f'<text x="{left - 6}" y="{TOP + HIGH - HIGH * share + 4}" text-anchor="end">{most_y * share:.0f}</text>'
+        yield f'<text x="{left - 6}" y="{TOP + HIGH - HIGH * share + 4}" text-anchor="end">{most_y * share:.3g}</text>'
     yield '<polyline fill="none" stroke="#06c" stroke-width="2" points="' + " ".join("%.1f,%.1f" % place(x, y) for x, y in points) + '"/>'
     for x, y in points:
         yield '<circle cx="%.1f" cy="%.1f" r="3" fill="#06c"/>' % place(x, y)

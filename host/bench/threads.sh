@@ -7,6 +7,7 @@ cd "$(dirname "$0")/../.."
 if [ "$(uname -m)" != x86_64 ]; then echo "to be run on x86-64: under an emulator a time says nothing" >&2; exit 2; fi
 rounds=${1:-11}
 . host/machine.sh
+needs gcc
 missing=()
 for library in lmdb sqlite3; do echo "#include <$library.h>" | gcc -E - > /dev/null 2>&1 || missing+=("lib$library-dev"); done
 if [ ${#missing[@]} -gt 0 ]; then wants_packages "${missing[@]}" >&2 || exit 2; fi

@@ -93,5 +93,5 @@ def main(path):
 if __name__ == "__main__":
     library = sys.argv[1] if len(sys.argv) > 1 else ctypes.util.find_library("goravesha")
     if library is None:
-        sys.exit(__doc__)
+        sys.exit("no libgoravesha.so was found: give its path, or install with --shared and run ldconfig")
     main(library)

@@ -2,7 +2,7 @@
 -- AsPromised. `printed` (text/specs/Replies) is a definition. That the compiled program prints it is proved as far as a contract can say it: `answer_piece`
 -- and `answer_last` (crate text) put the answer lines of a piece of the text into the output, each turn of the program's loop does so with what it
 -- has read (`After`, crate schedule), and the pieces together come to `printed` of the whole text. That the
--- loop is given all of its input, and that its output is written, is assumed of libc's read and write, and tested.
+-- loop is given all of its input, and that its output is written, is read in its code, assumed of libc's read and write, and tested.
 use mathlib.Core.Path.{_≡_}
 use mathlib.Core.List.{List, [], _∷_, _++_}
 use Prim.Native.Nat.{ℕ}

@@ -1,6 +1,6 @@
 -- The tests of the definitions, each true exactly where a word of UsedWords is outside its range: the header's, an item's, a node's, and a worker's phase by
 -- phase; and the lines that may refuse a step.
-use Prim.Native.Nat.{ℕ, zero, suc, _+_, _-_, _≤_, _<_}
+use Prim.Native.Nat.{ℕ, zero, suc, _-_, _≤_, _<_}
 use mathlib.Core.Bool.{Bool, true, false, cond, not, _||_, _&&_}
 use mathlib.Core.List.{List, [], _∷_, _++_, tail}
 use mathlib.Core.Logic.{_⊎_, inl, inr}
@@ -10,7 +10,7 @@ use lib.Dec.{ltb, leb, eqb, eqb·suc-zero}
 use lib.ListN.{length, getD}
 use borrow.Author.Tests.{ltb-false, eqb-false, ne-eqb}
 use Rattle.definitions.specs.declared.PhaseRow.{PhaseRow}
-use Rattle.definitions.specs.Cells.{Cells, workers, items-limit, nodes-limit, projects, counter-limit, counter, items, used, given-back, steps, item,
+use Rattle.definitions.specs.Cells.{Cells, workers, items-limit, nodes-limit, projects, counter-limit, counter, items, used, given-back, item,
     old, new, handle, noted, node, new-node, seen, birth, value, older}
 use Rattle.definitions.specs.Answers.{Outcome}
 use Rattle.definitions.specs.Phases.{row, row-of, table}

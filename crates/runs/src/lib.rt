@@ -1,1 +1,1 @@
-// The group of fifteen runs of document 01, as one theorem over the definitions (specs/Fifteen.antt). There is no code here.
+// Theorems over the definitions: the fifteen runs, may-answer, and document 01's damage and refusals from the other side (specs). There is no code here.

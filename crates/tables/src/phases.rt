@@ -72,7 +72,7 @@ pub fn row_at(phase: usize) -> PhaseRow
     ensures { λ r. ⌜ r ≡ row-of phase ⌝ }
 {
     let entry = PHASES[phase];
-    let operation = ((entry / OPERATION) % 8) as u8;
+    let operation = ((entry / OPERATION) % 8) as u8; // below 8, so it fits a byte
     let line = (entry % MAY_ANSWER) as u8;
     PhaseRow { operation, line, may_answer: (entry / MAY_ANSWER) % 2 == 1 }
 }

@@ -37,7 +37,7 @@ pub enum Reason {
 /// By number, from 1 on: the reason and its sentence.
 const REASONS: [(Reason, &str); 13] = [
     (Reason::BadSize, "A size is outside its range, or too few words are lent; see goravesha_make and GORAVESHA_WORDS."),
-    (Reason::Damaged, "The words are damaged or hold no catalogue; make a new one and look for what wrote into them."),
+    (Reason::Damaged, "The words are damaged, too few or hold no catalogue; make a new one and look for what wrote into them."),
     (Reason::NoSuchWorker, "There is no worker of this number; they are numbered from 0 to P - 1."),
     (Reason::WorkerBusy, "The worker is in an operation; step it to its end first."),
     (Reason::WorkerIdle, "The worker is idle; start an operation first."),
