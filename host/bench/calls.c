@@ -5,14 +5,13 @@
  *        calls -1 JOB SIDE     runs one job some times on one side alone (0 archive, 1 twin), for callgrind; prints its number of calls
  */
 #define _GNU_SOURCE
+#include "timing.h"
 #include "twin.h"
 
 #include <inttypes.h>
 #include <stdio.h>
 #include <stdlib.h>
 #include <string.h>
-#include <sys/resource.h>
-#include <time.h>
 
 struct side {
   uint32_t (*make)(uint32_t *, size_t, uint32_t, uint32_t, uint32_t, uint32_t, uint32_t, goravesha_answer *);
@@ -38,12 +37,6 @@ static struct side sides[2] = {
   {twin_make, twin_register, twin_start_vread, twin_start_vcas, twin_start_take_snapshot, twin_start_read_snapshot, twin_start_total, twin_step,
    space[1], 0},
 };
-
-static uint64_t nanoseconds(void) {
-  struct timespec now;
-  clock_gettime(CLOCK_MONOTONIC, &now);
-  return (uint64_t)now.tv_sec * 1000000000u + (uint64_t)now.tv_nsec;
-}
 
 /* Steps of a worker until it is done; how many. */
 static uint64_t run_out(struct side *s, uint32_t worker) {
@@ -166,28 +159,16 @@ enum { JOBS = sizeof jobs / sizeof *jobs };
 static uint64_t calls_made;
 
 /* So many runs of a job on one side: the nanoseconds of the timed parts. */
-static uint64_t timed(const struct job *job, struct side *s, int runs) {
-  uint64_t spent = 0;
+static double timed(const struct job *job, struct side *s, int runs) {
+  double spent = 0;
   calls_made = 0;
   for (int i = 0; i < runs; i++) {
     job->ready(s);
-    uint64_t from = nanoseconds();
+    double from = nanoseconds();
     calls_made += job->run(s);
     spent += nanoseconds() - from;
   }
   return spent;
-}
-
-/* How often this thread was made to wait for another: a pair of runs that was is run again. */
-static long interruptions(void) {
-  struct rusage usage;
-  getrusage(RUSAGE_THREAD, &usage);
-  return usage.ru_nivcsw;
-}
-
-static int ascending(const void *a, const void *b) {
-  double x = *(const double *)a, y = *(const double *)b;
-  return (x > y) - (x < y);
 }
 
 static double at_share(double *sorted, int count, double share) { return sorted[(int)(share * (count - 1) + 0.5)]; }
@@ -198,7 +179,8 @@ static void compare(const struct job *job, int pairs) {
   int runs = 1;
   while (timed(job, &sides[0], runs) + timed(job, &sides[1], runs) < 1000000) runs *= 2;
   for (int i = 0, tries = 0; i < pairs; tries++) {
-    uint64_t spent[2], calls[2];
+    double spent[2];
+    uint64_t calls[2];
     long before = interruptions();
     for (int turn = 0; turn < 2; turn++) {
       int which = (turn + tries) % 2;
@@ -210,8 +192,8 @@ static void compare(const struct job *job, int pairs) {
       exit(EXIT_FAILURE);
     }
     if (interruptions() != before && tries < 20 * pairs) continue;
-    archive[i] = (double)spent[0] / (double)calls[0];
-    twin[i] = (double)spent[1] / (double)calls[1];
+    archive[i] = spent[0] / (double)calls[0];
+    twin[i] = spent[1] / (double)calls[1];
     ratio[i] = archive[i] / twin[i];
     i++;
   }

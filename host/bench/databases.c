@@ -1,4 +1,5 @@
 /* The room's items in LMDB and in SQLite: see databases.h. */
+#define _GNU_SOURCE
 #include "databases.h"
 #include "room.h"
 

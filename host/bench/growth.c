@@ -3,22 +3,17 @@
  *
  * usage: growth: prints one line for each point: curve, x, nanoseconds for a total, steps of it, nanoseconds for a readSnapshot, steps of it
  */
+#define _GNU_SOURCE
 #include "goravesha.h"
+#include "timing.h"
 
 #include <stdio.h>
 #include <stdlib.h>
-#include <time.h>
 
 enum { REPEATS = 41 };
 static uint32_t words[GORAVESHA_WORDS(64, 256, 4096)];
 static goravesha_answer answer;
 static size_t count;
-
-static double nanoseconds(void) {
-  struct timespec now;
-  clock_gettime(CLOCK_MONOTONIC, &now);
-  return 1e9 * (double)now.tv_sec + (double)now.tv_nsec;
-}
 
 static void accepted(uint32_t code) {
   if (code < GORAVESHA_REFUSED) return;
@@ -43,11 +38,6 @@ static void fill(uint32_t workers, uint32_t items, uint32_t changes) {
       run_out(0);
     }
   }
-}
-
-static int ascending(const void *a, const void *b) {
-  double x = *(const double *)a, y = *(const double *)b;
-  return (x > y) - (x < y);
 }
 
 /* The median over workers and repeats of one operation at handle 0. */

@@ -6,12 +6,11 @@
  */
 #define _GNU_SOURCE
 #include "goravesha.h"
+#include "timing.h"
 
 #include <pthread.h>
 #include <stdio.h>
 #include <stdlib.h>
-#include <sys/resource.h>
-#include <time.h>
 
 enum { WORKERS = 4, ITEMS = 256, NODES = 4096, PROJECTS = 8, MOST_ROUNDS = 1000 };
 enum held { NEVER, AROUND_EACH_CALL, AROUND_EACH_OPERATION, WAYS };
@@ -21,12 +20,6 @@ static uint32_t words[GORAVESHA_WORDS(WORKERS, ITEMS, NODES)];
 static const size_t count = sizeof words / sizeof words[0];
 static goravesha_answer answer;
 static pthread_mutex_t mutex = PTHREAD_MUTEX_INITIALIZER, asleep = PTHREAD_MUTEX_INITIALIZER;
-
-static double nanoseconds(void) {
-  struct timespec now;
-  clock_gettime(CLOCK_MONOTONIC, &now);
-  return 1e9 * (double)now.tv_sec + (double)now.tv_nsec;
-}
 
 static void lock(int wanted) {
   if (wanted) pthread_mutex_lock(&mutex);
@@ -81,18 +74,6 @@ static double timed(const struct job *job, enum held held) {
     unlock(held == AROUND_EACH_OPERATION);
   }
   return (nanoseconds() - from) / (double)steps;
-}
-
-/* How often this thread was made to wait for another: a round that was is run again. */
-static long interruptions(void) {
-  struct rusage usage;
-  getrusage(RUSAGE_THREAD, &usage);
-  return usage.ru_nivcsw;
-}
-
-static int ascending(const void *a, const void *b) {
-  double x = *(const double *)a, y = *(const double *)b;
-  return (x > y) - (x < y);
 }
 
 static void measure(const struct job *job, int rounds) {

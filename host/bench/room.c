@@ -4,6 +4,7 @@
  *
  * usage: room FOLDER [repeats] [durable]: the databases are made in FOLDER; 'durable' leaves their synchronising on, else it is off
  */
+#define _GNU_SOURCE
 #include "databases.h"
 #include "goravesha.h"
 #include "room.h"
