@@ -18,7 +18,9 @@ uint32_t archive_call(const struct call *call, uint32_t *words, size_t count, go
     return goravesha_start_read_snapshot(words, count, argument[0], argument[1], argument[2], answer);
   case START_TOTAL:
     return goravesha_start_total(words, count, argument[0], argument[1], argument[2], answer);
-  default: /* STEP: there is no other kind */
+  case STEP:
     return goravesha_step(words, count, argument[0], answer);
+  default: /* ABANDON: there is no other kind */
+    return goravesha_abandon(words, count, argument[0], answer);
   }
 }

@@ -150,6 +150,27 @@ static void one_loses(uint32_t from, uint32_t nodes) {
   expect_busy("both done", 0, 0, 0);
 }
 
+/* A vCAS of worker 0 that is abandoned after so many steps: the worker is free, and so many more nodes are in use than before it. */
+static void abandoned_after(int steps, uint32_t more_nodes) {
+  fresh(NODES, COUNTER, 1);
+  start_vcas(0, 0, 1, 2);
+  step(0, steps);
+  expect("held or published", goravesha_nodes_used(words, count), steps < 4 ? 1 : 2);
+  expect_answer("abandon", goravesha_abandon(words, count, 0, &answer), GORAVESHA_ACCEPTED, 0, 0);
+  expect_busy("after an abandon", 0, 0, 0);
+  expect("nodes after an abandon", goravesha_nodes_used(words, count), 1 + more_nodes);
+  expect_answer("a second abandon", goravesha_abandon(words, count, 0, &answer), GORAVESHA_WORKER_IDLE, 0, 0);
+  expect_answer("finish of an abandoned worker", finish(0), GORAVESHA_WORKER_IDLE, 0, 0);
+  expect("start of vRead", goravesha_start_vread(words, count, 0, 0, &answer), GORAVESHA_ACCEPTED);
+  expect_answer("vRead after an abandon", finish(0), GORAVESHA_FINISHED, more_nodes ? 2 : 1, steps < 5 || steps == 8 ? 3 : 5);
+}
+
+/* A vCAS alone publishes at its fifth step and has its node stamped at its eighth. */
+static void abandoning(void) {
+  for (int steps = 0; steps < 9; steps++) abandoned_after(steps, steps < 5 ? 0 : 1);
+  expect_answer("abandon of no worker", goravesha_abandon(words, count, WORKERS, &answer), GORAVESHA_NO_SUCH_WORKER, 0, 0);
+}
+
 static void how_full(void) {
   fresh(NODES, COUNTER, 0);
   expect_fullness("fresh", 0, 0, 0);
@@ -340,6 +361,7 @@ int main(void) {
   end = (uint32_t *)room + ROOM_WORDS;
   finishing();
   finishing_on_damaged_words();
+  abandoning();
   how_full();
   several_wait();
   damaged_lists();

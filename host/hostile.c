@@ -27,7 +27,7 @@ static uint32_t *room;           /* ROOM_WORDS words with a guard page on either
 static goravesha_answer *answer; /* its last byte is the last before a guard page */
 static struct table run, expected;
 static struct draw draws;
-static uint64_t made, by_code[KINDS][CODES], by_phase[PHASES][CODES], by_origin[ORIGINS];
+static uint64_t made, by_code[KINDS][CODES], by_phase[PHASES][CODES], abandoned_at[PHASES][CODES], by_origin[ORIGINS];
 static unsigned char flush_at[PAGE_WORDS], gap_at[PAGE_WORDS];
 static unsigned wrong;
 static struct {
@@ -91,7 +91,7 @@ static void differ(const uint32_t *words, uint32_t code, struct answer told) {
 static void compare(uint32_t *words) {
   const struct call *call = &present.call;
   uint32_t phase = PHASES;
-  if (call->kind == STEP && expected.count >= 32 && call->argument[0] < 64 && 16 + 16 * (size_t)call->argument[0] < expected.count)
+  if ((call->kind == STEP || call->kind == ABANDON) && expected.count >= 32 && call->argument[0] < 64 && 16 + 16 * (size_t)call->argument[0] < expected.count)
     phase = expected.words[16 + 16 * call->argument[0]];
   memset(answer, 0xaa, sizeof *answer);
   uint32_t code = archive_call(call, words, expected.count, answer);
@@ -101,7 +101,7 @@ static void compare(uint32_t *words) {
   made++;
   by_origin[present.origin]++;
   by_code[call->kind][told.code % CODES]++;
-  if (phase < PHASES) by_phase[phase][told.code % CODES]++;
+  if (phase < PHASES) (call->kind == STEP ? by_phase : abandoned_at)[phase][told.code % CODES]++;
 }
 
 /* The unlent words on either side, as far as they are looked at. */
@@ -160,13 +160,13 @@ static const char *code_name(unsigned code, char *name) {
   return name;
 }
 
-/* What was met; and everything that document 01 lets a call answer must have been. */
+/* What was met; and everything that documents 01 and 02 let a call answer must have been. */
 static void report(void) {
   static const uint32_t may[KINDS] = {1u << 2 | 1u << 17, 1u << 2 | 1u << 18 | 1u << 23 | 1u << 26 | 1u << 27, 1u << 2 | 1u << 18 | 1u << 19 | 1u << 20 | 1u << 22,
                                       1u << 2 | 1u << 18 | 1u << 19 | 1u << 20 | 1u << 22 | 1u << 23, 1u << 2 | 1u << 18 | 1u << 19 | 1u << 20,
                                       1u << 2 | 1u << 18 | 1u << 19 | 1u << 20 | 1u << 22 | 1u << 24 | 1u << 25,
                                       1u << 2 | 1u << 18 | 1u << 19 | 1u << 20 | 1u << 23 | 1u << 24,
-                                      1u << 0 | 1u << 1 | 1u << 18 | 1u << 19 | 1u << 21 | 1u << 27 | 1u << 28};
+                                      1u << 0 | 1u << 1 | 1u << 18 | 1u << 19 | 1u << 21 | 1u << 27 | 1u << 28, 1u << 2 | 1u << 18 | 1u << 19 | 1u << 21};
   char name[32];
   for (int kind = 0; kind < KINDS; kind++) {
     printf("%-19s", kind_name[kind]);
@@ -181,6 +181,11 @@ static void report(void) {
     uint64_t *met = by_phase[phase];
     printf("step at phase %2d, line %2d:  running %" PRIu64 "  finished %" PRIu64 "  damaged %" PRIu64 "\n", phase, row->line, met[1], met[0], met[18]);
     if (met[18] == 0 || met[0] + met[1] == 0 || (met[0] > 0) != row->may_answer) wrong++, printf("  not as the table of phases says!\n");
+  }
+  for (int phase = 1; phase < PHASES; phase++) {
+    uint64_t *met = abandoned_at[phase];
+    printf("abandon at phase %2d, line %2d:  accepted %" PRIu64 "  damaged %" PRIu64 "\n", phase, phase_rows[phase].line, met[2], met[18]);
+    if (met[2] == 0 || met[18] == 0) wrong++, printf("  not met!\n");
   }
   for (int origin = 0; origin < ORIGINS; origin++) printf("tables %s: %" PRIu64 " calls\n", origin_name[origin], by_origin[origin]);
   unsigned flush = 0, gaps = 0;

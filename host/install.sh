@@ -109,6 +109,7 @@ for program in "${programs[@]}"; do
 done
 put_all "$prefix/share/doc/goravesha" README.md
 put_all "$prefix/share/doc/goravesha/docs" docs/*
+put_all "$prefix/share/doc/goravesha/docs/landings" docs/landings/*
 put_all "$share/examples" host/example* host/python/example*
 for file in tools/*.py tools/*.html; do
   case $file in tools/put_edit.py) ;; *) put_all "$share/tools" "$file" ;; esac   # put_edit.py is the gate's own

@@ -5,32 +5,33 @@ set -eu
 cd "$(dirname "$0")/.."
 . host/machine.sh
 if [ "$native" = yes ]; then seconds=${1:-5}; else seconds=${1:-60}; fi   # the emulator is slow
-bash host/build.sh hostile archive oracle tables
+bash host/build.sh hostile archive oracle oracle_words tables
 there=$(mktemp -d)
 trap 'rm -rf "$there"' EXIT
-cp host/*.c host/*.h "$there"
 python3 - "$there" <<'PYTHON'
-import re, sys
+import os, sys
 there = sys.argv[1]
-source = open(there + "/oracle.c").read().split("\n")
+sources = {name: open("host/" + name).read().split("\n") for name in ("oracle.c", "oracle_words.c")}
 blocks = [b.split("\n") for b in open("host/oracle_errors.txt").read().strip().split("\n\n")]
 for number, (what, old, new) in enumerate(blocks):
-    places = [i for i, line in enumerate(source) if line.strip() == old[2:].strip()]
-    if len(places) != 1: sys.exit("not exactly one line of oracle.c: " + old)
-    copy = list(source)
-    copy[places[0]] = new[2:]
-    open("%s/wrong%02d.c" % (there, number), "w").write("\n".join(copy))
-    open("%s/wrong%02d.name" % (there, number), "w").write(what[2:] + "\n")
+    places = [(name, i) for name, lines in sources.items() for i, line in enumerate(lines) if line.strip() == old[2:].strip()]
+    if len(places) != 1: sys.exit("not exactly one line of the oracle: " + old)
+    folder = "%s/wrong%02d" % (there, number)
+    os.mkdir(folder)
+    for name, lines in sources.items():
+        copy = [new[2:] if (name, i) == places[0] else line for i, line in enumerate(lines)]
+        open(folder + "/" + name, "w").write("\n".join(copy))
+    open(folder + "/name", "w").write(what[2:] + "\n")
 PYTHON
 noticed=0 missed=0
-for wrong in "$there"/wrong*.c; do
-  compile_to "$there/hostile" -std=gnu11 -O2 -Iinclude -Ihost "$there"/hostile.c "$there"/archive.c "$there"/tables.c "$wrong" target/staticlib/libcatalogue.a
+for wrong in "$there"/wrong*; do
+  compile_to "$there/hostile" -std=gnu11 -O2 -Iinclude -Ihost host/hostile.c host/archive.c host/tables.c "$wrong"/*.c target/staticlib/libcatalogue.a
   if "$there/hostile" -s "$seconds" > "$there/out" 2> "$there/err"; then
-    missed=$((missed + 1)); echo "not noticed: $(cat "${wrong%.c}.name")"
+    missed=$((missed + 1)); echo "not noticed: $(cat "$wrong/name")"
   elif grep -q 'the oracle:' "$there/err"; then
-    noticed=$((noticed + 1)); echo "noticed: $(cat "${wrong%.c}.name")"
+    noticed=$((noticed + 1)); echo "noticed: $(cat "$wrong/name")"
   else
-    missed=$((missed + 1)); echo "ended otherwise: $(cat "${wrong%.c}.name")"; tail -n 3 "$there/err"
+    missed=$((missed + 1)); echo "ended otherwise: $(cat "$wrong/name")"; tail -n 3 "$there/err"
   fi
 done
 echo "$noticed noticed, $missed not"

@@ -1,231 +1,13 @@
 /*
- * Document 01 in C, to be held against it section by section: the lent words, the table of phases, what is damaged, make and register, the
- * starts, and the steps, one function for each line of Algorithm 1. A call first tests everything and only then writes, so that a refusal
- * changes no word. Nothing here follows a number found in the words before it was tested against its range.
+ * Documents 01 and 02 in C, to be held against them section by section: make and register, the starts, the steps, one function for each line of
+ * Algorithm 1, and document 02's abandon. The lent words and what is damaged are in oracle_words.c. A call first tests everything and only then writes, so that a
+ * refusal changes no word.
  */
-#include "oracle.h"
-
-#include <stdbool.h>
+#include "oracle_words.h"
 
 const char *const kind_name[KINDS] = {
-    "make", "register", "start of vRead", "start of vCAS", "start of takeSnapshot", "start of readSnapshot", "start of total", "step",
+    "make", "register", "start of vRead", "start of vCAS", "start of takeSnapshot", "start of readSnapshot", "start of total", "step", "abandon",
 };
-
-/* ---- The lent words: header, workers, items, nodes, in the words of docs/FIELDS.md ---- */
-/* Every member of a record is a uint32_t, so that a record laid over the words reads and writes them as what they are. */
-
-static const uint32_t TBD = 4294967295u;
-
-struct header {
-  uint32_t workers, items_limit, nodes_limit, projects, counter_limit; /* P, M, N, Q, C */
-  uint32_t counter, items, used, given_back, unused[7];                /* given_back: a node number plus one; 0: none waits */
-};
-
-struct worker {
-  uint32_t phase, steps, item, old, new, handle, project, noted, node, new_node, seen, sum_low, sum_high, unused[3];
-};
-
-struct item {
-  uint32_t head, birth, size, unused;
-};
-
-struct node {
-  uint32_t value, older, stamp; /* older: a node number plus one; 0: none */
-};
-
-_Static_assert(sizeof(struct header) == 16 * sizeof(uint32_t), "a header is 16 words");
-_Static_assert(sizeof(struct worker) == 16 * sizeof(uint32_t), "a worker is 16 words");
-_Static_assert(sizeof(struct item) == 4 * sizeof(uint32_t), "an item is 4 words");
-_Static_assert(sizeof(struct node) == 3 * sizeof(uint32_t), "a node is 3 words");
-
-struct catalogue {
-  struct header *header;
-  struct worker *workers;
-  struct item *items;
-  struct node *nodes;
-};
-
-static size_t needed_words(uint32_t workers, uint32_t items, uint32_t nodes) {
-  return 16 + 16 * (size_t)workers + 4 * (size_t)items + 3 * (size_t)nodes;
-}
-
-/* The four parts of the words. Only for a header that is not damaged: its sizes say where the parts begin. */
-static struct catalogue parts_of(uint32_t *words) {
-  struct header *header = (struct header *)words;
-  struct worker *workers = (struct worker *)(words + 16);
-  struct item *items = (struct item *)(workers + header->workers);
-  struct node *nodes = (struct node *)(items + header->items_limit);
-  return (struct catalogue){header, workers, items, nodes};
-}
-
-/* ---- The table of phases ---- */
-
-enum operation { IDLE, VREAD, VCAS, TAKE_SNAPSHOT, READ_SNAPSHOT, TOTAL };
-
-/* Where each operation begins; a total begins at its first item, or at the closing step if there is none. */
-enum { VREAD_BEGINS = 1, VCAS_BEGINS = 6, TAKE_SNAPSHOT_BEGINS = 23, READ_SNAPSHOT_BEGINS = 25, TOTAL_ITEM_BEGINS = 30, TOTAL_CLOSES = 35 };
-
-/* Column `kept`: the words of the record, besides the arguments, that a phase has in use, at a start as at a step. */
-enum kept { KEPT_NODE = 1, KEPT_NEW = 2, KEPT_SEEN = 4 };
-
-/* Column `node_words`: the words of nodes that a step has in use. */
-enum node_words { NO_WORDS, ITS_STAMP, ITS_VALUE, NODE_TAKEN, NODES_GIVEN, NODE_TESTED };
-
-const struct phase_row phase_rows[PHASES] = {
-    /* operation, line, may answer, kept, node words, goes on at, otherwise at */
-    [0] = {IDLE, 0, 0, 0, NO_WORDS, 0, 0},
-    [1] = {VREAD, 37, 0, 0, NO_WORDS, 2, 0},
-    [2] = {VREAD, 20, 0, KEPT_NODE, ITS_STAMP, 3, 5},
-    [3] = {VREAD, 21, 0, KEPT_NODE, NO_WORDS, 4, 0},
-    [4] = {VREAD, 22, 0, KEPT_NODE | KEPT_SEEN, ITS_STAMP, 5, 0},
-    [5] = {VREAD, 39, 1, KEPT_NODE, ITS_VALUE, 0, 0},
-    [6] = {VCAS, 41, 0, 0, NO_WORDS, 7, 0},
-    [7] = {VCAS, 20, 0, KEPT_NODE, ITS_STAMP, 8, 10},
-    [8] = {VCAS, 21, 0, KEPT_NODE, NO_WORDS, 9, 0},
-    [9] = {VCAS, 22, 0, KEPT_NODE | KEPT_SEEN, ITS_STAMP, 10, 0},
-    [10] = {VCAS, 43, 1, KEPT_NODE, ITS_VALUE, 11, 0},
-    [11] = {VCAS, 45, 0, KEPT_NODE, NODE_TAKEN, 12, 0},
-    [12] = {VCAS, 46, 0, KEPT_NODE | KEPT_NEW, NO_WORDS, 13, 17},
-    [13] = {VCAS, 20, 0, KEPT_NODE, ITS_STAMP, 14, 16},
-    [14] = {VCAS, 21, 0, KEPT_NODE, NO_WORDS, 15, 0},
-    [15] = {VCAS, 22, 0, KEPT_NODE | KEPT_SEEN, ITS_STAMP, 16, 0},
-    [16] = {VCAS, 48, 1, 0, NO_WORDS, 0, 0},
-    [17] = {VCAS, 50, 0, KEPT_NEW, NODES_GIVEN, 18, 0},
-    [18] = {VCAS, 51, 0, 0, NO_WORDS, 19, 0},
-    [19] = {VCAS, 20, 0, KEPT_NODE, ITS_STAMP, 20, 22},
-    [20] = {VCAS, 21, 0, KEPT_NODE, NO_WORDS, 21, 0},
-    [21] = {VCAS, 22, 0, KEPT_NODE | KEPT_SEEN, ITS_STAMP, 22, 0},
-    [22] = {VCAS, 52, 1, 0, NO_WORDS, 0, 0},
-    [23] = {TAKE_SNAPSHOT, 5, 0, 0, NO_WORDS, 24, 0},
-    [24] = {TAKE_SNAPSHOT, 6, 1, 0, NO_WORDS, 0, 0},
-    [25] = {READ_SNAPSHOT, 32, 0, 0, NO_WORDS, 26, 0},
-    [26] = {READ_SNAPSHOT, 20, 0, KEPT_NODE, ITS_STAMP, 27, 29},
-    [27] = {READ_SNAPSHOT, 21, 0, KEPT_NODE, NO_WORDS, 28, 0},
-    [28] = {READ_SNAPSHOT, 22, 0, KEPT_NODE | KEPT_SEEN, ITS_STAMP, 29, 0},
-    [29] = {READ_SNAPSHOT, 34, 1, KEPT_NODE, NODE_TESTED, 29, 0},
-    [30] = {TOTAL, 32, 0, 0, NO_WORDS, 31, 0},
-    [31] = {TOTAL, 20, 0, KEPT_NODE, ITS_STAMP, 32, 34},
-    [32] = {TOTAL, 21, 0, KEPT_NODE, NO_WORDS, 33, 0},
-    [33] = {TOTAL, 22, 0, KEPT_NODE | KEPT_SEEN, ITS_STAMP, 34, 0},
-    [34] = {TOTAL, 34, 0, KEPT_NODE, NODE_TESTED, 34, 0},
-    [35] = {TOTAL, 0, 1, 0, NO_WORDS, 0, 0},
-};
-
-/* Every phase but 0, 23, 24 and 35: only idle and the closing step have line 0. */
-static bool inside_an_item(const struct phase_row *row) {
-  return row->line != 0 && row->operation != TAKE_SNAPSHOT;
-}
-
-/* ---- Damaged: a word this call uses is outside its range ---- */
-
-/*
- * Four points are easily read more widely than document 01 writes them: 'a step count below 5,121 before a step' and 'the number read at 5 below
- * C when 6 runs' are tests of a step and of no start (before_a_step_damaged); 'stamps at most the counter or TBD' holds for a birth stamp as for a node's
- * (stamp_outside); and register, which has no line, uses of the nodes 'the first node given back' alone (first_given_back_damaged).
- */
-
-static bool outside(uint32_t number, uint32_t least, uint32_t most) {
-  return number < least || number > most;
-}
-
-/* The ranges of P, M, N, Q and C: refusal 1 to make, damage in a header. */
-static bool sizes_outside(uint32_t workers, uint32_t items, uint32_t nodes, uint32_t projects, uint32_t counter) {
-  if (outside(workers, 1, 64)) return true;
-  if (outside(items, 1, 256)) return true;
-  if (outside(nodes, 1, 4096)) return true;
-  if (outside(projects, 1, 256)) return true;
-  return outside(counter, 1, 4294967294u);
-}
-
-static bool header_damaged(const uint32_t *words, size_t count) {
-  if (count < 16) return true;
-  const struct header *header = (const struct header *)words;
-  if (sizes_outside(header->workers, header->items_limit, header->nodes_limit, header->projects, header->counter_limit)) return true;
-  if (header->counter > header->counter_limit) return true;
-  if (header->items > header->items_limit) return true;
-  if (header->used > header->nodes_limit) return true;
-  if (header->given_back > header->used) return true;
-  return count < needed_words(header->workers, header->items_limit, header->nodes_limit);
-}
-
-static uint64_t running_sum(const struct worker *worker) {
-  return ((uint64_t)worker->sum_high << 32) + worker->sum_low;
-}
-
-/* A running operation's arguments are in use at each of its phases. */
-static bool arguments_damaged(const struct header *header, const struct worker *worker, const struct phase_row *row) {
-  switch (row->operation) {
-  case VREAD: return worker->item >= header->items;
-  case VCAS: return worker->item >= header->items || worker->old >= header->projects || worker->new >= header->projects;
-  case READ_SNAPSHOT: return worker->item >= header->items || worker->handle >= header->counter;
-  case TOTAL:
-    if (worker->project >= header->projects) return true;
-    if (worker->handle >= header->counter) return true; /* a handle is below the counter */
-    if (worker->noted > header->items) return true;
-    if (worker->item > worker->noted) return true;
-    if (inside_an_item(row) && worker->item == worker->noted) return true;
-    return running_sum(worker) > (uint64_t)1 << 40;
-  default: return false; /* takeSnapshot has none */
-  }
-}
-
-static bool kept_words_damaged(const struct header *header, const struct worker *worker, const struct phase_row *row) {
-  if (row->kept & KEPT_NODE && worker->node >= header->used) return true;
-  if (row->kept & KEPT_NEW && worker->new_node >= header->used) return true;
-  return row->kept & KEPT_SEEN && worker->seen > header->counter;
-}
-
-static bool worker_damaged(const struct header *header, const struct worker *worker) {
-  if (worker->phase >= PHASES) return true;
-  const struct phase_row *row = &phase_rows[worker->phase];
-  if (row->operation == IDLE) return false; /* an idle worker's other words are not in use */
-  return arguments_damaged(header, worker, row) || kept_words_damaged(header, worker, row);
-}
-
-/* Of a worker whose phase is known, before a step alone. */
-static bool before_a_step_damaged(const struct header *header, const struct worker *worker) {
-  const struct phase_row *row = &phase_rows[worker->phase];
-  if (row->operation == IDLE) return false; /* no step comes */
-  if (worker->steps >= 5121) return true;
-  return row->line == 6 && worker->seen >= header->counter_limit; /* line 6 may store one more */
-}
-
-static bool stamp_outside(const struct header *header, uint32_t stamp) {
-  return stamp > header->counter && stamp != TBD;
-}
-
-static bool item_damaged(const struct header *header, const struct item *item) {
-  return item->head >= header->used || stamp_outside(header, item->birth);
-}
-
-static bool value_damaged(const struct header *header, const struct node *node) {
-  return node->value >= header->projects;
-}
-
-static bool older_damaged(const struct header *header, const struct node *node) {
-  return node->older > header->used;
-}
-
-static bool stamp_damaged(const struct header *header, const struct node *node) {
-  return stamp_outside(header, node->stamp);
-}
-
-static bool node_damaged(const struct header *header, const struct node *node) {
-  return value_damaged(header, node) || older_damaged(header, node) || stamp_damaged(header, node);
-}
-
-/* Register, 45 and 50 use the first node given back, where one waits. */
-static bool first_given_back_damaged(struct catalogue catalogue) {
-  const struct header *header = catalogue.header;
-  return header->given_back != 0 && node_damaged(header, &catalogue.nodes[header->given_back - 1]);
-}
-
-/* Line 34 uses the stamp, which H made valid, then the older node where it goes on and the value where it does not. */
-static bool tested_node_damaged(const struct header *header, const struct node *node, uint32_t handle) {
-  if (node->stamp > header->counter) return true; /* so is TBD */
-  if (node->stamp > handle) return node->older == 0 || older_damaged(header, node);
-  return value_damaged(header, node);
-}
 
 /* ---- Taking a node: the one most recently given back; if none waits, the lowest never used ---- */
 
@@ -248,6 +30,12 @@ static uint32_t take_node(struct catalogue catalogue, struct node filled) {
   }
   *node = filled;
   return (uint32_t)(node - catalogue.nodes);
+}
+
+/* As line 50 returns it: the node's link is to the one given back before it; its value and stamp stay. */
+static void give_node_back(struct catalogue catalogue, uint32_t number) {
+  catalogue.nodes[number].older = catalogue.header->given_back;
+  catalogue.header->given_back = number + 1;
 }
 
 /* ---- Answers ---- */
@@ -445,10 +233,7 @@ static struct answer line_46(const struct running *running) {
 }
 
 static struct answer line_50(const struct running *running) {
-  struct header *header = running->catalogue.header;
-  const uint32_t number = running->worker->new_node;
-  running->catalogue.nodes[number].older = header->given_back;
-  header->given_back = number + 1;
+  give_node_back(running->catalogue, running->worker->new_node);
   return go_on(running->worker, running->row->goes_on);
 }
 
@@ -478,14 +263,11 @@ static struct answer run_line(const struct running *running) {
 static bool node_words_damaged(const struct running *running) {
   const struct header *header = running->catalogue.header;
   const struct worker *worker = running->worker;
-  struct node *nodes = running->catalogue.nodes;
   switch (running->row->node_words) {
   case ITS_STAMP: return stamp_damaged(header, node_of(running));
   case ITS_VALUE: return value_damaged(header, node_of(running));
   case NODE_TAKEN: return !no_node_left(header) && node_damaged(header, node_to_take(running->catalogue));
-  case NODES_GIVEN:
-    if (older_damaged(header, &nodes[worker->new_node])) return true;
-    return first_given_back_damaged(running->catalogue);
+  case NODES_GIVEN: return nodes_given_damaged(running->catalogue, worker->new_node);
   case NODE_TESTED: return tested_node_damaged(header, node_of(running), worker->handle);
   default: return false;
   }
@@ -505,6 +287,27 @@ static struct answer step(struct catalogue catalogue, uint32_t number) {
   return run_line(&running);
 }
 
+/* ---- Abandon: document 02, request 1 ---- */
+
+/* A node taken at 45 is not published before 46 has run, and after a 46 that failed it waits for 50. */
+static bool holds_a_node(const struct phase_row *row) {
+  return row->line == 46 || row->line == 50;
+}
+
+/* Not a step: the worker's words are tested as at a start, and its item's record is not used. */
+static struct answer abandon(struct catalogue catalogue, uint32_t number) {
+  const struct header *header = catalogue.header;
+  if (number >= header->workers) return refused(3); /* as at a step */
+  struct worker *worker = &catalogue.workers[number];
+  if (worker_damaged(header, worker)) return refused(2); /* as at a start, right after 3 */
+  if (worker->phase == 0) return refused(5);
+  const bool held = holds_a_node(&phase_rows[worker->phase]);
+  if (held && nodes_given_damaged(catalogue, worker->new_node)) return refused(2);
+  if (held) give_node_back(catalogue, worker->new_node);
+  *worker = (struct worker){.phase = 0}; /* idle at once; what it published stays */
+  return accepted(0);
+}
+
 /* ---- The calls ---- */
 
 struct answer oracle_call(const struct call *call, uint32_t *words, size_t count) {
@@ -513,5 +316,6 @@ struct answer oracle_call(const struct call *call, uint32_t *words, size_t count
   const struct catalogue catalogue = parts_of(words);
   if (call->kind == REGISTER) return register_item(catalogue, call->argument[0], call->argument[1]);
   if (call->kind == STEP) return step(catalogue, call->argument[0]);
+  if (call->kind == ABANDON) return abandon(catalogue, call->argument[0]);
   return start(catalogue, call);
 }

@@ -21,7 +21,7 @@ static struct table table;
 static struct call call;
 static goravesha_answer answer;
 
-/* The eight calls, each made with as many arguments as it takes, and nothing done before or after it: its code is handed on. */
+/* The calls, each made with as many arguments as it takes, and nothing done before or after it: its code is handed on. */
 static uint32_t make(void) {
   const uint32_t *a = call.argument;
   return goravesha_make(table.words, table.count, a[0], a[1], a[2], a[3], a[4], &answer);
@@ -39,9 +39,10 @@ static uint32_t read_snapshot(void) {
 }
 static uint32_t total(void) { return goravesha_start_total(table.words, table.count, call.argument[0], call.argument[1], call.argument[2], &answer); }
 static uint32_t step(void) { return goravesha_step(table.words, table.count, call.argument[0], &answer); }
+static uint32_t abandon(void) { return goravesha_abandon(table.words, table.count, call.argument[0], &answer); }
 static uint32_t nothing(void) { return 0; }
 
-static uint32_t (*const function[KINDS])(void) = {make, registers, vread, vcas, take_snapshot, read_snapshot, total, step};
+static uint32_t (*const function[KINDS])(void) = {make, registers, vread, vcas, take_snapshot, read_snapshot, total, step, abandon};
 
 /* The bytes of the stack that a function leaves unpainted. What it returns is dropped: a context's function returns nothing. */
 static size_t used_by(uint32_t (*made)(void)) {

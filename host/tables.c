@@ -119,6 +119,7 @@ struct call draw_call(const uint32_t *words, size_t count, struct draw *draw) {
   struct call call = {often[draw_below(draw, 16)], {0}};
   uint32_t header[9], *a = call.argument;
   for (unsigned which = 0; which < 9; which++) header[which] = header_word(words, count, which);
+  if (draw_once_in(draw, 40)) call.kind = ABANDON;
   if (draw_once_in(draw, 64)) call.kind = MAKE;
   if (call.kind == MAKE) draw_sizes(draw, 2000, a);
   else if (call.kind == REGISTER) a[0] = within(draw, header[3]), a[1] = draw_once_in(draw, 2) ? UINT32_MAX : draw_word(draw);

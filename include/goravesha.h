@@ -22,7 +22,7 @@
  *    2  GORAVESHA_DAMAGED          a word that the call uses is outside its range (docs/FIELDS.md), or fewer words are lent than the header needs
  *    3  GORAVESHA_NO_SUCH_WORKER   the worker number is P or more
  *    4  GORAVESHA_WORKER_BUSY      start: the worker is in an operation
- *    5  GORAVESHA_WORKER_IDLE      step: the worker is idle
+ *    5  GORAVESHA_WORKER_IDLE      step, abandon: the worker is idle
  *    6  GORAVESHA_NOT_REGISTERED   the item number is not registered
  *    7  GORAVESHA_NO_SUCH_PROJECT  a project number is Q or more
  *    8  GORAVESHA_NO_SUCH_HANDLE   the handle is at or above the present counter
@@ -38,7 +38,8 @@
  *
  *   make      once, in words of your own: an array, memory from malloc, mapped or shared memory.
  *   register  each item once, with its project and its size. Items are numbered from 0. Project 0 means unlinked.
- *   worker    a number from 0 to P - 1 that runs one operation at a time: a start begins it, steps carry it out. goravesha_finish steps it to its end.
+ *   worker    a number from 0 to P - 1 that runs one operation at a time: a start begins it, steps carry it out. goravesha_finish steps it to its end;
+ *             goravesha_abandon gives it up, where whoever stepped it has died.
  *   relink    a vCAS. It answers 1: the item is charged to the new project. Or 0: it was charged to another project than `old_project` by then.
  *             Nothing is wrong and nothing was changed. Read the item's present project (vRead), and decide anew whether the relink is still wanted.
  *   page      take a snapshot; its answer is a handle, which fits 32 bits. Totals and reads at this handle are those of one moment, however late and
@@ -48,9 +49,9 @@
  * How long a catalogue lasts
  *
  *   Nodes    each register takes a node, and so does each relink that changes an item's project. This version gives none of them back. A vCAS
- *            that is under way may hold one more; it gives it back if it loses. So choose N at least items + relinks + changes under way (at
- *            most P). N - goravesha_nodes_used(words, count) nodes are left. A service that starts a relink only while P or more are left, and
- *            registers only while more than P are left, is never refused with 11 in a step.
+ *            that is under way may hold one more; it gives it back if it loses, or if it is abandoned before its change is published. So choose N
+ *            at least items + relinks + changes under way (at most P). N - goravesha_nodes_used(words, count) nodes are left. A service that
+ *            starts a relink only while P or more are left, and registers only while more than P are left, is never refused with 11 in a step.
  *   Handles  each snapshot uses up one of the C handles (those taken at the same time may share one). C - goravesha_counter(words, count) are
  *            left. C costs no memory: take the largest unless you want a limit, or a recording (goravesha_record.h: C at most 65,535).
  *   At 11 and 12  finish what is under way, make a new catalogue in other words, and register each item anew with its present project (a vRead in
@@ -68,7 +69,12 @@
  *   goravesha_finish; let it go after some 16 calls of a long report, so that others are let in, and pause between reports. Where no other thread
  *   wants it, a lock and unlock takes about one and a half times as long as a step (some 15 ns and 10 ns on a virtual x86-64 machine). Where
  *   threads contend, a lock for each call made relinks four to five times as long as a lock for each relink (docs/PERFORMANCE.md).
- *   Where a thread ends between two steps of an operation, any other may step that worker to its end (goravesha_finish), and the worker is free again.
+ *   Where a thread or process has ended between two steps of an operation, any other may step that worker to its end (goravesha_finish), and has the answer;
+ *   or abandon it (goravesha_abandon), and has none. Either way the worker is free again. After an abandoned relink, read the item's present project (vRead)
+ *   and decide anew. Be sure that it has ended: one that goes on is refused with 5, or steps the operation that the worker was given next, and takes its
+ *   answer. One that ended inside a call may have left words half written: make a new catalogue. One that ended while it held the mutex may have been inside
+ *   one. So a daemon that may be killed holds the mutex for each call alone, and between processes the mutex is a robust one
+ *   (pthread_mutexattr_setrobust), which tells of such a death and can be taken again.
  *
  * Where the words may live
  *
@@ -90,8 +96,8 @@ extern "C" {
 #endif
 
 /* The version of this header and archive, as text and as a number: 1.2.3 is 10203. */
-#define GORAVESHA_VERSION "1.0.0"
-#define GORAVESHA_VERSION_NUMBER 10000
+#define GORAVESHA_VERSION "1.1.0"
+#define GORAVESHA_VERSION_NUMBER 10100
 
 /* The codes that a call returns. Each from GORAVESHA_BAD_SIZE on is a refusal: GORAVESHA_REFUSED and its number. */
 enum {
@@ -184,6 +190,20 @@ uint32_t goravesha_start_total(uint32_t *words, size_t count, uint32_t worker, u
 GORAVESHA_CHECKED(4)
 uint32_t goravesha_step(uint32_t *words, size_t count, uint32_t worker, goravesha_answer *answer);
 
+/*
+ * Abandons a worker: it is idle at once, its record all zero, and the operation that it was in is over without an answer. Answers ACCEPTED. It is not a
+ * step, and stamps nothing; what the operation has stamped stays stamped. What becomes of it:
+ *   a relink that has not published its change, which line 46 does, never takes effect. A node that it has taken (it stands at line 46 or 50) goes back, as
+ *   line 50 returns it.
+ *   a relink that has published its change takes effect once, when its node is stamped: by itself before this call, or by any other operation that meets
+ *   the node, before this call or after it. Once a vRead of the item that was started after this call has answered, it has taken effect.
+ *   any other operation never takes effect. (A takeSnapshot moves the counter in its last step alone.)
+ * Refusals: 2, 3, 2 (worker, as at a start), 5, 2 (node: where one goes back, its link, and the first node given back, where one waits). The item's record
+ * is not used: an operation on an item that is damaged can be abandoned too.
+ */
+GORAVESHA_CHECKED(4)
+uint32_t goravesha_abandon(uint32_t *words, size_t count, uint32_t worker, goravesha_answer *answer);
+
 /* What follows is made of the calls above and of looks at the words; nothing of it is in the archive. */
 
 /*
@@ -220,8 +240,8 @@ static inline uint32_t goravesha_items(const uint32_t *words, size_t count) { re
 static inline uint32_t goravesha_counter(const uint32_t *words, size_t count) { return goravesha_lent_whole(words, count) ? words[5] : 0; }
 
 /*
- * How many nodes are in use: each is a version of an item, or held by a vCAS under way. The nodes that lost vCAS have given back are not counted,
- * since they are taken again first. So N less this number can still be taken, and at N register and relinks are refused with 11. It goes
+ * How many nodes are in use: each is a version of an item, or held by a vCAS under way. The nodes that lost and abandoned vCAS have given back are not
+ * counted, since they are taken again first. So N less this number can still be taken, and at N register and relinks are refused with 11. It goes
  * through the nodes given back, which are few, and never more than 4,096.
  */
 static inline uint32_t goravesha_nodes_used(const uint32_t *words, size_t count) {
@@ -254,12 +274,12 @@ static inline const char *goravesha_text(uint32_t code) {
   switch (code) {
     case GORAVESHA_FINISHED: return "The operation has finished; the answer holds its value and its steps.";
     case GORAVESHA_RUNNING: return "The operation goes on; step the worker again.";
-    case GORAVESHA_ACCEPTED: return "Done: the catalogue is made, the item registered or the operation started.";
+    case GORAVESHA_ACCEPTED: return "Done: the catalogue is made, the item registered, the operation started or the worker abandoned.";
     case GORAVESHA_BAD_SIZE: return "A size is outside its range, or too few words are lent; see goravesha_make and GORAVESHA_WORDS.";
     case GORAVESHA_DAMAGED: return "The words are damaged, too few or hold no catalogue; make a new one and look for what wrote into them.";
     case GORAVESHA_NO_SUCH_WORKER: return "There is no worker of this number; they are numbered from 0 to P - 1.";
-    case GORAVESHA_WORKER_BUSY: return "The worker is in an operation; step it to its end first.";
-    case GORAVESHA_WORKER_IDLE: return "The worker is idle; start an operation first.";
+    case GORAVESHA_WORKER_BUSY: return "The worker is in an operation; step it to its end first, or abandon it, if whoever stepped it has died.";
+    case GORAVESHA_WORKER_IDLE: return "The worker is idle; there is no operation to step or to abandon.";
     case GORAVESHA_NOT_REGISTERED: return "No item of this number is registered.";
     case GORAVESHA_NO_SUCH_PROJECT: return "There is no project of this number; they are numbered from 0 to Q - 1, and 0 means unlinked.";
     case GORAVESHA_NO_SUCH_HANDLE: return "No snapshot has this handle yet; take one first.";

@@ -17,8 +17,10 @@
  *
  * What does not fit. A frame's arguments have four digits. A number above 65,535 has no frame: a size in MiB, the counter's limit C, a handle, and what
  * is refused anyway. No wrong frame is written for it: the call is made and left out. If it was refused it changed no word, and the recording goes on. If it
- * was accepted (register, or make), all later calls are left out too, up to a make that fits and is accepted. So each frame that is written finds in
- * schedule what it found in the service. A service that is to be recorded whole makes with C at most 65,535, and registers sizes of at most 65,535 MiB.
+ * was accepted (register, or make), all later calls are left out too, up to a make that fits and is accepted. An abandon has no frame at all, and is left
+ * out in the same way: once one is accepted, so are all later calls up to a make. So each frame that is written finds in
+ * schedule what it found in the service. A service that is to be recorded whole makes with C at most 65,535, registers sizes of at most 65,535 MiB, and steps
+ * the worker of a dead daemon to its end instead of abandoning it.
  *
  * Where answers then differ, something else wrote into the service's words, or a call went past the recorder; with one exception: schedule lends 16,384
  * words, enough for every catalogue. A service that lends fewer than its catalogue needs is refused with 1 or 2, and schedule is not.
@@ -40,14 +42,14 @@ typedef struct {
   FILE *frames, *answers;
   uint64_t calls;             /* made through the recorder */
   uint64_t written;           /* of these, written as frames */
-  uint64_t unfit_call;        /* the first call with a number that does not fit, from 1; 0: there is none */
+  uint64_t unfit_call;        /* the first call with a number that does not fit or without a frame, from 1; 0: there is none */
   uint32_t unfit_number;      /* that number, */
-  const char *unfit_argument; /* and which argument it is */
+  const char *unfit_argument; /* and which argument it is; NULL: it was an abandon */
   int in_a_gap;               /* 1 after such a call that was accepted: schedule could not follow */
   int failed;                 /* 1 after a write that failed */
 } goravesha_recorder;
 
-/* A call as schedule reads it: its operation's number, and its arguments with their names. */
+/* A call as schedule reads it: its operation's number, and its arguments with their names. Operation 0: there is no frame for it. */
 typedef struct {
   unsigned operation, arguments;
   uint32_t number[GORAVESHA_FRAME_ARGUMENTS];
@@ -95,7 +97,7 @@ static inline void goravesha_record_write(goravesha_recorder *recorder, const go
 /* Records a call that was made and answered, and hands its code on. */
 static inline uint32_t goravesha_record_call(goravesha_recorder *recorder, const goravesha_frame *frame, uint32_t code, const goravesha_answer *answer) {
   const unsigned unfit = goravesha_record_unfit(frame);
-  const int fits = unfit == frame->arguments, accepted = code < GORAVESHA_REFUSED;
+  const int fits = frame->operation != 0 && unfit == frame->arguments, accepted = code < GORAVESHA_REFUSED;
   recorder->calls++;
   if (!fits && recorder->unfit_call == 0) {
     recorder->unfit_call = recorder->calls;
@@ -118,7 +120,9 @@ static inline int goravesha_record_complete(goravesha_recorder *recorder) {
 /* Says in a line how much was recorded, and in two more what was not, where that is so. */
 static inline void goravesha_record_report(const goravesha_recorder *recorder, FILE *to) {
   fprintf(to, "recorded: %llu of %llu calls\n", (unsigned long long)recorder->written, (unsigned long long)recorder->calls);
-  if (recorder->unfit_call != 0)
+  if (recorder->unfit_call != 0 && recorder->unfit_argument == NULL)
+    fprintf(to, "call %llu is the first without a frame: an abandon; where one is accepted, all are left out up to a make that fits\n", (unsigned long long)recorder->unfit_call);
+  else if (recorder->unfit_call != 0)
     fprintf(to, "call %llu is the first that does not fit a frame: %s %lu is above %d; where such a call is accepted, all are left out up to a make that fits\n", (unsigned long long)recorder->unfit_call, recorder->unfit_argument,
             (unsigned long)recorder->unfit_number, GORAVESHA_FRAME_LARGEST);
   if (recorder->failed) fprintf(to, "a write failed: the frames or the answers are not whole\n");
@@ -179,6 +183,13 @@ GORAVESHA_CHECKED(5)
 static inline uint32_t goravesha_recorded_step(goravesha_recorder *recorder, uint32_t *words, size_t count, uint32_t worker, goravesha_answer *answer) {
   const goravesha_frame frame = {8, 1, {worker}, {"worker"}};
   return goravesha_record_call(recorder, &frame, goravesha_step(words, count, worker, answer), answer);
+}
+
+/* An abandon is made and counted, but no frame stands for it. */
+GORAVESHA_CHECKED(5)
+static inline uint32_t goravesha_recorded_abandon(goravesha_recorder *recorder, uint32_t *words, size_t count, uint32_t worker, goravesha_answer *answer) {
+  const goravesha_frame frame = {0, 0, {0}, {NULL}};
+  return goravesha_record_call(recorder, &frame, goravesha_abandon(words, count, worker, answer), answer);
 }
 
 /* Steps a worker until its operation has ended or a step is refused, each step recorded: the code and the answer of the last one. */

@@ -18,12 +18,13 @@ sed 's/{ pthread_mutex_[a-z]*lock(&mutex); }/{}/' $example > "$there/no_mutex.c"
 compile_to "$there/example" "${flags[@]}" $example $archive
 "$there/example" > "$there/said"
 grep -q ' pages of 6 projects while 3 threads made 3000 relinks: each page added up to 46500 MiB$' "$there/said" || fail "it says $(cat "$there/said")"
+grep -qx '70 daemons died in mid-relink, each on the same worker: 20 relinks stand, and no node is lost' "$there/said" || fail "of daemons that die it says $(cat "$there/said")"
 
 checked="the example"
 export TSAN_OPTIONS=halt_on_error=1:exitcode=66
 if [ "$native" = yes ] && echo 'int main(void) { return 0; }' | "$compiler" -fsanitize=thread -x c - -o "$there/probe" 2> /dev/null && "$there/probe" 2> /dev/null; then
   twin=(host/bench/twin.c)
-  for call in make register start_vread start_vcas start_take_snapshot start_read_snapshot start_total step; do twin+=("-Dtwin_$call=goravesha_$call"); done
+  for call in make register start_vread start_vcas start_take_snapshot start_read_snapshot start_total step abandon; do twin+=("-Dtwin_$call=goravesha_$call"); done
   compile_to "$there/sanitized" -fsanitize=thread "${flags[@]}" $example $archive
   "$there/sanitized" > /dev/null || fail "a race under the thread sanitizer"
   compile_to "$there/sanitized-twin" -fsanitize=thread "${flags[@]}" $example "${twin[@]}"
@@ -59,4 +60,4 @@ for number, name in enumerate(example.REFUSALS, 1): print(number, name)')" = "$n
 else
   echo "not tested: the example in Python, since the shared library is for x86-64"
 fi
-echo "examples: three threads relink while each page adds up: $checked$python"
+echo "examples: three threads relink while each page adds up, and daemons die in mid-relink: $checked$python"

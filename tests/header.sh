@@ -54,7 +54,7 @@ mkdir "$there/five"
 sed 's/uint64_t value, steps, stamped,/uint64_t value, steps, stamped, more,/' include/goravesha.h > "$there/five/goravesha.h"
 echo '#include <goravesha.h>' | refused_for 'goravesha_answer_is_32_bytes' "an answer of five numbers" "$there/five"
 # Each call with its last argument, the answer, at hand; then ignored, and then NULL.
-calls=("make 1,1,1,1,1" "register 1,1" "start_vread 0,0" "start_vcas 0,0,1,2" "start_take_snapshot 0" "start_read_snapshot 0,0,0" "start_total 0,1,0" "step 0" "finish 0")
+calls=("make 1,1,1,1,1" "register 1,1" "start_vread 0,0" "start_vcas 0,0,1,2" "start_take_snapshot 0" "start_read_snapshot 0,0,0" "start_total 0,1,0" "step 0" "abandon 0" "finish 0")
 for call in "${calls[@]}"; do
   begin="#include <goravesha.h>
 uint32_t f(uint32_t *words, size_t count, goravesha_answer *answer); uint32_t f(uint32_t *words, size_t count, goravesha_answer *answer) {"

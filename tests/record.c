@@ -161,6 +161,20 @@ static void left_out(void) {
   CHECK(end() == 0);
 }
 
+/* An abandon has no frame. One that is refused is left out alone; after one that is accepted all is, up to the next make. */
+static void abandons(void) {
+  begin("abandons");
+  CHECK(make(COUNTER) == GORAVESHA_ACCEPTED && add_item(1) == GORAVESHA_ACCEPTED);
+  CHECK(goravesha_recorded_abandon(&recorder, words, COUNT, 0, &answer) == GORAVESHA_REFUSED + 5 && recorder.written == 2);
+  CHECK(recorder.unfit_call == 3 && recorder.unfit_argument == NULL);
+  CHECK(vread(0) == GORAVESHA_ACCEPTED && step(0) == GORAVESHA_RUNNING && recorder.written == 4);
+  CHECK(goravesha_recorded_abandon(&recorder, words, COUNT, 0, &answer) == GORAVESHA_ACCEPTED && recorder.written == 4);
+  CHECK(vread(0) == GORAVESHA_ACCEPTED && recorder.written == 4);
+  CHECK(make(COUNTER) == GORAVESHA_ACCEPTED && add_item(7) == GORAVESHA_ACCEPTED && recorder.written == 6 && recorder.calls == 9);
+  goravesha_record_report(&recorder, stdout);
+  CHECK(end() == 0);
+}
+
 /* Whether a recording of one call into these files is complete. The call is made whatever becomes of its line. */
 static int complete_into(FILE *frames, FILE *answers) {
   goravesha_record_begin(&recorder, frames, answers);
@@ -187,6 +201,7 @@ int main(int count, char **arguments) {
   service();
   gaps();
   left_out();
+  abandons();
   writes_that_fail();
   return wrong ? EXIT_FAILURE : EXIT_SUCCESS;
 }

@@ -14,6 +14,8 @@ warnings=(-O2 -Wall -Wextra -Wpedantic -Wconversion -Wsign-conversion -Werror -I
 cat > "$there/reports" << 'END'
 recorded: 7 of 9 calls
 call 3 is the first that does not fit a frame: worker 65536 is above 65535; where such a call is accepted, all are left out up to a make that fits
+recorded: 6 of 9 calls
+call 3 is the first without a frame: an abandon; where one is accepted, all are left out up to a make that fits
 recorded: 1 of 1 calls
 a write failed: the frames or the answers are not whole
 END

@@ -7,7 +7,7 @@ if ! command -v cargo > /dev/null; then echo "not tested: the Rust wrapper, sinc
 . host/machine.sh
 if [ "$native" = no ]; then echo "not tested: the Rust wrapper, since the archive is for x86-64"; exit 0; fi
 bash host/archive.sh
-cargo test --quiet --offline --manifest-path host/rust/Cargo.toml --target-dir target/rust
+cargo test --quiet --offline --locked --manifest-path host/rust/Cargo.toml --target-dir target/rust
 said=$(cargo run --quiet --offline --manifest-path host/rust/Cargo.toml --target-dir target/rust --example threads)
 case $said in
 *" pages of 6 projects while 3 threads made 3000 relinks: each page added up to 46500 MiB") ;;

@@ -19,7 +19,7 @@ library=
 if [ "$native" = yes ]; then own=$compiler; else own=cc; fi
 if command -v "$own" > /dev/null; then
   library=$work/oracle.so
-  "$own" -std=c11 -O2 -shared -fPIC -Iinclude host/oracle.c -o "$library" || exit 1
+  "$own" -std=c11 -O2 -shared -fPIC -Iinclude host/oracle.c host/oracle_words.c -o "$library" || exit 1
 else
   echo "not tested: the timeline's model on damaged words (there is no $own here)"
 fi

@@ -1,6 +1,6 @@
 #!/usr/bin/env python3
 # Holds tools/catalogue.py, the model under the timeline, against schedule's answers on every vector (tests/vectors.sh holds the program to the same
-# files), on document 01's listing and on the long schedule; its tables against docs/FIELDS.md; and, where a library of host/oracle.c is given, every
+# files), on document 01's listing and on the long schedule; its tables against docs/FIELDS.md; and, where a library of the oracle is given, every
 # answer and every word against the oracle on random calls and damaged words. usage: tests/timeline_model.py [ORACLE.so]
 import ctypes, glob, random, re, sys
 

@@ -1,8 +1,8 @@
 #!/usr/bin/env bash
 # usage: bash tools/definition_edits.sh [NAME..]: puts each edit of tools/definition_edits into a copy of the crates, alone, and has the crate checked that its line
 # 'by:' names: reached, which ties every call of the words to the machine that demands 2 and 3 are proved of; history, the machine's own theorems; or runs, the
-# fifteen runs and the refusals on any words. All below it must still be proved, and it must be refused, by an error in its own files; and without an edit all
-# must be proved. rt's own must-fail edits cannot show this, since they check the edited crate alone. Two are tried at a time.
+# fifteen runs, the abandons and the refusals on any words. All below it must still be proved, and it must be refused, by an error in its own files; and without
+# an edit all must be proved. rt's own must-fail edits cannot show this, since they check the edited crate alone. Two are tried at a time.
 set -eu
 cd "$(dirname "$0")/.."
 
@@ -21,7 +21,7 @@ try_edit() {
     if [ -z "$edit" ]; then echo "proved: $by, without an edit"; return; fi
     echo "NOT REFUSED: $1"; return 1
   fi
-  reason=$(sed -n "s/.*crates\/\($by\/[^ ]*: error: .\{100\}\).*/\1/p" log | head -n 1)
+  reason=$(sed -n "s/.*crates\/\($by\/[^ ]*: error: .\{1,100\}\).*/\1/p" log | head -n 1)
   if [ -n "$edit" ] && grep -q "^rt: FAILED: $by\$" log && [ -n "$reason" ]; then echo "refused: $1: $reason"; return; fi
   echo "NOT REFUSED BY $by: $1: $(grep -m 1 error log || tail -n 1 log)"; return 1
 }

@@ -6,7 +6,7 @@ The words are read from FILE, or from standard input: 32-bit numbers as they sta
 With --text they are numbers in text, decimal or 0x.., as gdb prints them by 'x/78xw words'; what stands before a colon in a line is passed over.
 
 Printed: the header; each worker with its operation, its next line and the words that it keeps; each item with its versions, newest first; the nodes that
-wait after a lost vCAS. Marked are
+wait after a lost or abandoned vCAS. Marked are
     damaged: a word outside its range, for which a call would be refused with 2 (in a worker's or an item's record the first such word)
     wrong:   words in their ranges that no run of calls from make can leave
 Any words may be given: every walk ends, and words past those that the largest catalogue needs are not read. Status: 0; 1 where something is marked, or could not be read or written; 2 for a wrong argument.

@@ -1,5 +1,5 @@
 /*
- * Each start, the steps of each operation, and totals over 256 items: the proved archive against its C twin, in one run, turn about.
+ * Each start, the steps of each operation, totals over 256 items, and abandons: the proved archive against its C twin, in one run, turn about.
  *
  * usage: calls [pairs]         prints for each job the median of the ratios archive/twin, their quartiles, and nanoseconds a call
  *        calls -1 JOB SIDE     runs one job some times on one side alone (0 archive, 1 twin), for callgrind; prints its number of calls
@@ -22,6 +22,7 @@ struct side {
   uint32_t (*read_snapshot)(uint32_t *, size_t, uint32_t, uint32_t, uint32_t, goravesha_answer *);
   uint32_t (*total)(uint32_t *, size_t, uint32_t, uint32_t, uint32_t, goravesha_answer *);
   uint32_t (*step)(uint32_t *, size_t, uint32_t, goravesha_answer *);
+  uint32_t (*abandon)(uint32_t *, size_t, uint32_t, goravesha_answer *);
   uint32_t *words;
   uint64_t changes; /* that each item has had, the last one to project changes % 2 */
 };
@@ -33,9 +34,9 @@ static goravesha_answer answer;
 
 static struct side sides[2] = {
   {goravesha_make, goravesha_register, goravesha_start_vread, goravesha_start_vcas, goravesha_start_take_snapshot, goravesha_start_read_snapshot,
-   goravesha_start_total, goravesha_step, space[0], 0},
+   goravesha_start_total, goravesha_step, goravesha_abandon, space[0], 0},
   {twin_make, twin_register, twin_start_vread, twin_start_vcas, twin_start_take_snapshot, twin_start_read_snapshot, twin_start_total, twin_step,
-   space[1], 0},
+   twin_abandon, space[1], 0},
 };
 
 /* Steps of a worker until it is done; how many. */
@@ -96,6 +97,12 @@ static void ready_change(struct side *s) {
 static void ready_unequal(struct side *s) {
   for (uint32_t w = 0; w < WORKERS; w++) s->vcas(s->words, COUNT, w, w, 5, 6, &answer);
 }
+/* Each worker stands before line 46 and holds a node; an abandon gives it back. */
+static void ready_held(struct side *s) {
+  for (uint32_t w = 0; w < WORKERS; w++) s->vcas(s->words, COUNT, w, w, 1, 2, &answer);
+  for (uint32_t w = 0; w < WORKERS; w++)
+    for (int i = 0; i < 4; i++) s->step(s->words, COUNT, w, &answer);
+}
 /* Workers 32 to 63 stand before line 46, and each has lost to another. */
 static void ready_lost(struct side *s) {
   if (s->words[7] + WORKERS > NODES) fill(s, 0);
@@ -132,6 +139,15 @@ static uint64_t step_four(struct side *s) {
   return calls;
 }
 
+static void ready_totals(struct side *s) {
+  start_total(s);
+  for (uint32_t w = 0; w < WORKERS; w++) s->step(s->words, COUNT, w, &answer);
+}
+static uint64_t abandon_all(struct side *s) {
+  for (uint32_t w = 0; w < WORKERS; w++) s->abandon(s->words, COUNT, w, &answer);
+  return WORKERS;
+}
+
 static const struct job {
   const char *name;
   void (*fill)(struct side *);
@@ -153,6 +169,10 @@ static const struct job {
   {"step total, 256 items, no change", fill_0, ready_total, step_four},
   {"step total, 256 items, 1 change each", fill_1, ready_total, step_four},
   {"step total, 256 items, 10 changes each", fill_10, ready_total, step_four},
+  {"abandon of a vRead, no node held", fill_0, ready_vread, abandon_all},
+  {"abandon of a total, no node held", fill_0, ready_totals, abandon_all},
+  {"abandon at 46, a node held", fill_0, ready_held, abandon_all},
+  {"abandon of an idle worker, refused", fill_0, make_idle, abandon_all},
 };
 enum { JOBS = sizeof jobs / sizeof *jobs };
 

@@ -29,12 +29,12 @@ done
 
 # Instructions a call, by callgrind: the archive, then the twin by gcc -O2.
 echo "instructions a call: archive, twin" | tee "$out/instructions.txt"
-starts=(start_vread start_vcas start_take_snapshot start_read_snapshot start_total)
-for job in $(seq 0 14); do
+call_of=(start_vread start_vcas start_take_snapshot start_read_snapshot start_total [15]=abandon [16]=abandon [17]=abandon [18]=abandon)   # the other jobs: step
+for job in $(seq 0 18); do
   line=""
   for side in 0 1; do
     prefix=goravesha; [ "$side" = 0 ] || prefix=twin
-    counted=${prefix}_${starts[$job]:-step}
+    counted=${prefix}_${call_of[$job]:-step}
     said=$(valgrind -q --tool=callgrind --callgrind-out-file="$out/callgrind" --toggle-collect="$counted" "$out/calls-gcc-O2" -1 "$job" "$side" 2> /dev/null)
     line="$line $(awk -v calls="${said%% *}" '/^(summary|totals):/ { printf "%.0f", $2 / calls; exit }' "$out/callgrind")"
   done

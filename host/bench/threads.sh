@@ -18,7 +18,7 @@ sources=(host/bench/threads.c host/bench/databases.c)
 build=(gcc -std=gnu11 -O2 -Wall -Wextra -Iinclude -pthread)
 
 names=()
-for call in make register start_vread start_vcas start_take_snapshot start_read_snapshot start_total step; do names+=("-Dtwin_$call=goravesha_$call"); done
+for call in make register start_vread start_vcas start_take_snapshot start_read_snapshot start_total step abandon; do names+=("-Dtwin_$call=goravesha_$call"); done
 "${build[@]}" -g -fsanitize=thread "${names[@]}" "${sources[@]}" host/bench/twin.c -llmdb -lsqlite3 -o "$out/threads-races"
 "$out/threads-races" 4 1 0 > "$out/threads-races.txt"
 echo "no data race was seen"

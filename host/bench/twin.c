@@ -212,12 +212,17 @@ static inline uint32_t line_45(struct header *h, struct worker *w, struct node *
   return go_on(answer, w, w->phase + 1);
 }
 
-static inline uint32_t line_50(struct header *h, struct worker *w, struct node *nodes, goravesha_answer *answer) {
+/* Gives the worker's new node back; 0 where a word that this uses is damaged, and nothing is written. */
+static inline int give_back(struct header *h, const struct worker *w, struct node *nodes) {
   struct node *returned = nodes + w->new_node;
-  if (returned->older > h->used || (h->given_back != 0 && node_damaged(h, nodes + h->given_back - 1))) return refuse(answer, 2);
+  if (returned->older > h->used || (h->given_back != 0 && node_damaged(h, nodes + h->given_back - 1))) return 0;
   returned->older = h->given_back;
   h->given_back = w->new_node + 1;
-  return go_on(answer, w, w->phase + 1);
+  return 1;
+}
+
+static inline uint32_t line_50(struct header *h, struct worker *w, struct node *nodes, goravesha_answer *answer) {
+  return give_back(h, w, nodes) ? go_on(answer, w, w->phase + 1) : refuse(answer, 2);
 }
 
 uint32_t twin_step(uint32_t *words, size_t count, uint32_t worker, goravesha_answer *answer) {
@@ -277,4 +282,14 @@ uint32_t twin_step(uint32_t *words, size_t count, uint32_t worker, goravesha_ans
     case 34: return line_34(h, w, item, node, row.operation == TOTAL, answer);
     default: return end(answer, w, GORAVESHA_FINISHED, sum_of(w));
   }
+}
+
+uint32_t twin_abandon(uint32_t *words, size_t count, uint32_t worker, goravesha_answer *answer) {
+  struct header *h = (struct header *)words;
+  uint32_t number = worker_refusal(words, count, worker);
+  if (number != 4) return refuse(answer, number == 0 ? 5 : number); /* as a start, but that the worker is to be busy */
+  struct worker *w = worker_at(words, worker);
+  if ((rows[w->phase].keeps & NEW_NODE) && !give_back(h, w, nodes_at(words))) return refuse(answer, 2);
+  memset(w, 0, sizeof *w);
+  return tell(answer, GORAVESHA_ACCEPTED, 0, 0);
 }

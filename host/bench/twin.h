@@ -14,5 +14,6 @@ uint32_t twin_start_take_snapshot(uint32_t *words, size_t count, uint32_t worker
 uint32_t twin_start_read_snapshot(uint32_t *words, size_t count, uint32_t worker, uint32_t item, uint32_t handle, goravesha_answer *answer);
 uint32_t twin_start_total(uint32_t *words, size_t count, uint32_t worker, uint32_t project, uint32_t handle, goravesha_answer *answer);
 uint32_t twin_step(uint32_t *words, size_t count, uint32_t worker, goravesha_answer *answer);
+uint32_t twin_abandon(uint32_t *words, size_t count, uint32_t worker, goravesha_answer *answer);
 
 #endif

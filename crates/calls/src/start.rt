@@ -1,6 +1,6 @@
 // The starts of the five operations. Each touches the worker's record alone.
 use definitions::Answer;
-use endings::{refuse, write_record};
+use endings::{accept, refuse, write_record};
 use tables::damage::{header_is_damaged, item_is_damaged, worker_is_damaged};
 use tables::fields::{BIRTH, COUNTER, HEADER_WORDS, ITEMS, ITEM_WORDS, PHASE, PROJECTS, WORKERS, WORKER_WORDS};
 use tables::phases::{CLOSING_PHASE, READ_SNAPSHOT_START, TAKE_SNAPSHOT_START, TOTAL_START, V_CAS_START, V_READ_START};
@@ -8,7 +8,6 @@ ghost use mathlib.Core.Path.{_≡_};
 ghost use mathlib.Core.Bool.{not};
 ghost use Prim.Native.Nat.{ℕ, _<_};
 ghost use lib.Dec.{eqb};
-ghost use Rattle.definitions.specs.Answers.{accepted};
 ghost use Rattle.definitions.specs.Cells.{cells-of};
 ghost use Rattle.definitions.specs.Calls.{outcome, sound-item};
 ghost use Rattle.definitions.specs.Calls.Call.{v-read, v-cas, take-snapshot, read-snapshot, total};
@@ -66,12 +65,6 @@ fn item_refusal(words: &[u32], item: u32) -> u32
         return 2;
     }
     0
-}
-
-fn accept(value: u64) -> Answer
-    ensures { λ r. ⌜ r ≡ accepted value ⌝ }
-{
-    Answer { code: 2, value, steps: 0, stamped: 0, operator: 0 }
 }
 
 pub fn start_vread(words: &mut [u32], worker: u32, item: u32) -> Answer

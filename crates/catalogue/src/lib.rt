@@ -1,6 +1,7 @@
 // The calls as the C service has them, on numbers and slices: include/goravesha.h is their header.
 // No call asks anything of its caller: bad calls are refused, each with one fixed number. A call returns the code of its answer and writes
 // the answer's four numbers: the value, the steps, and two zeros.
+use abandon::abandon;
 use calls::make::make;
 use calls::register::register;
 use calls::start::{start_read_snapshot, start_take_snapshot, start_total, start_vcas, start_vread};
@@ -76,6 +77,15 @@ pub extern "C" fn goravesha_step(words: &mut [u32], worker: u32, answer: &mut [u
     ensures { λ r. ⌜ Told (outcome (now (words .entry)) (Call.step worker)) r (now (answer .exit)) (now (words .exit)) ⌝ }
 {
     let a = step(words, worker);
+    *answer = [a.value, a.steps as u64, 0, 0];
+    a.code
+}
+
+#[no_mangle]
+pub extern "C" fn goravesha_abandon(words: &mut [u32], worker: u32, answer: &mut [u64; 4]) -> u32
+    ensures { λ r. ⌜ Told (outcome (now (words .entry)) (Call.abandon worker)) r (now (answer .exit)) (now (words .exit)) ⌝ }
+{
+    let a = abandon(words, worker);
     *answer = [a.value, a.steps as u64, 0, 0];
     a.code
 }

@@ -1,22 +1,22 @@
 -- What a call comes to depends on the cells that stand alone: two functions that agree on those have the same outcome.
 use Prim.Native.Nat.{ℕ, _+_, _-_, _<_, _≤_}
 use mathlib.Core.Bool.{Bool, true, false, cond, not, _||_, _&&_}
-use mathlib.Core.List.{[], _∷_}
+use mathlib.Core.List.{[], _∷_, _++_}
 use mathlib.Core.Path.{_≡_, refl, ap, ap₂, _∙_}
 use native.Mathlib.Omega.{arith}
 use lib.Dec.{eqb, ltb, leb}
 use borrow.Author.Tests.{leb-false, ltb-false, eqb-false}
 use Rattle.definitions.specs.declared.PhaseRow.{PhaseRow}
-use Rattle.definitions.specs.Cells.{Cell, Cells, _≔_, workers, items-limit, nodes-limit, projects, counter-limit, counter, items, used, given-back, phase, steps, item, old, new, handle, project, noted, node, new-node, seen, sum-low, sum-high, head, birth, size, value, older, stamp}
-use Rattle.definitions.specs.Answers.{Outcome, unless, _⇒_, refused, ends-with}
+use Rattle.definitions.specs.Cells.{Cell, Cells, _≔_, workers, items-limit, nodes-limit, projects, counter-limit, counter, items, used, given-back, phase, steps, item, old, new, handle, project, noted, node, new-node, seen, sum-low, sum-high, head, birth, size, value, older, stamp, cleared}
+use Rattle.definitions.specs.Answers.{Outcome, unless, _⇒_, refused, accepts, ends-with}
 use Rattle.definitions.specs.Phases.{row-of, table}
 use Rattle.definitions.specs.Damage.{bad-item, bad-value, bad-handle, inside-item, keeps-node, keeps-new-node, arguments-damaged, kept-damaged, running-damaged, worker-damaged, step-damaged, item-damaged, node-damaged, first-damaged, older-damaged}
-use Rattle.definitions.specs.Lines.{Line, line, lines, line-of-phase, idle, fetch, help-20, help-21, help-22, fetch-head, line-20, line-21, line-22, line-39, line-43, line-45, line-46, line-48, line-50, line-52, line-5, line-6, line-34, total-32, total-34, closing, no-node, node-to-take, taking, no-words, its-value, taken-node, returned-node, tested-node}
-use Rattle.definitions.specs.Calls.{Call, no-worker, busy, free-worker, sound-item, registering, starting-v-read, starting-v-cas, starting-take-snapshot, starting-read-snapshot, starting-total, stepping}
+use Rattle.definitions.specs.Lines.{Line, line, lines, line-of-phase, idle, fetch, help-20, help-21, help-22, fetch-head, line-20, line-21, line-22, line-39, line-43, line-45, line-46, line-48, line-50, line-52, line-5, line-6, line-34, total-32, total-34, closing, no-node, node-to-take, taking, returning, no-words, its-value, taken-node, returned-node, tested-node}
+use Rattle.definitions.specs.Calls.{Call, no-worker, busy, free-worker, sound-item, registering, starting-v-read, starting-v-cas, starting-take-snapshot, starting-read-snapshot, starting-total, stepping, abandoning}
 use Rattle.cells.specs.Stands.{Stands}
 use Rattle.cells.specs.Made.{comes-to}
 use Rattle.cells.specs.Rows.{Rows, at-phase}
-use Rattle.cells.specs.Spares.{Kept-in, kept-in, Header-in, taken-in, where-asked, first-false, second-false}
+use Rattle.cells.specs.Spares.{Kept-in, busy-kept, Header-in, taken-in, first-false}
 
 -- A refusal in both, or the same after it.
 or-same : (b b' : Bool) (r : Outcome) {o o' : Outcome} → b' ≡ b → (b ≡ false → o' ≡ o) → cond b' r o' ≡ cond b r o
@@ -179,13 +179,16 @@ module _ (p m n : ℕ) (f g : Cells) (H : Header-in p m n f) (A : (c : Cell) →
       does = unfold line-45 in choice-same (no-node f) (no-node g) no-node-same ends-same
           (rw (taking-same, taken-same, A (phase w) l, A (steps w) l, A (new w) l, A (node w) l)) }
 
-    line-50-same : (r : PhaseRow) → keeps-new-node r ≡ true → Line-same w l r (line returned-node line-50)
-    line-50-same r t k = record {
-      tests = ap₂ (λ (a b : Bool). a || b) link-same first-words;
-      does = unfold line-50 in rw (A (phase w) l, A (steps w) l, A (new-node w) l, A given-back (omega arith)) }
+    returned-same : f (new-node w) < f used → returned-node g w ≡ returned-node f w
+    returned-same b = ap₂ (λ (a b : Bool). a || b) link-same first-words
       where
         link-same : older-damaged g (g (new-node w)) ≡ older-damaged f (f (new-node w))
-        link-same = rw (A (new-node w) l, A used (omega arith), A (older (f (new-node w))) (omega (arith, k .new-node-in t, H .used-in)))
+        link-same = rw (A (new-node w) l, A used (omega arith), A (older (f (new-node w))) (omega (arith, b, H .used-in)))
+
+    line-50-same : (r : PhaseRow) → keeps-new-node r ≡ true → Line-same w l r (line returned-node line-50)
+    line-50-same r t k = record {
+      tests = returned-same (k .new-node-in t);
+      does = unfold line-50 in rw (A (phase w) l, A (steps w) l, A (new-node w) l, A given-back (omega arith)) }
 
     every-row : Rows (Line-same w l) table lines
     unfolding table lines
@@ -268,8 +271,7 @@ module _ (p m n : ℕ) (f g : Cells) (H : Header-in p m n f) (A : (c : Cell) →
   unfolding after-worker
   after-same w l b =
       or-same (eqb ph 0) (eqb ph 0) (refused 5) refl
-      (λ c. let k : Kept-in (row-of ph) f w = kept-in (row-of ph) f w
-          (where-asked (not (eqb ph 0)) (running-damaged (row-of ph) f w) (second-false (ltb 35 ph) (known) b) (ap not c)) in
+      (λ c. let k : Kept-in (row-of ph) f w = busy-kept f w b c in
         let x : Same-line w l (row-of ph) (line-of-phase ph) = line-same w l ph (ltb-false 35 ph (first-false (ltb 35 ph) known b)) k in
         or-same (inside-item (row-of ph) && item-damaged f (f (item w))) (inside-item (row-of ph) && item-damaged g (g (item w))) (refused 2)
         (ap (λ (i : ℕ). inside-item (row-of ph) && item-damaged g i) (A (item w) l) ∙ inside-same w l (row-of ph) k)
@@ -289,6 +291,25 @@ module _ (p m n : ℕ) (f g : Cells) (H : Header-in p m n f) (A : (c : Cell) →
         (λ b. or-same (step-damaged f w) (step-damaged g w) (refused 2) (before-step-same w l)
             (λ c. ap (after-worker g w) (A (phase w) l) ∙ after-same w l b)))
 
+  -- an abandon after the tests of its worker, by whether that holds a node
+  abbrev giving : Cells → (w : ℕ) → (holds : Bool) → Outcome
+  giving h w b = unless ((b && returned-node h w) ⇒ 2 ∷ []) (accepts 0 (cond b (returning h w) [] ++ cleared w))
+
+  giving-same : (w : ℕ) → w < p → (b : Bool) → (b ≡ true → f (new-node w) < f used) → giving g w b ≡ giving f w b
+  giving-same w l true k =
+      or-same (returned-node f w) (returned-node g w) (refused 2) (returned-same w l (k refl)) (λ e. rw (A (new-node w) l, A given-back (omega arith)))
+  giving-same w l false k = refl
+
+  abandon-same : (w : ℕ) → abandoning g w ≡ abandoning f w
+  unfolding abandoning
+  abandon-same w =
+      or-same (no-worker f w) (no-worker g w) (refused 3) (no-worker-same w)
+      (λ a. let l : w < p = worker-in w a in
+        or-same (worker-damaged f w) (worker-damaged g w) (refused 2) (worker-same w l)
+        (λ b. or-same (eqb (f (phase w)) 0) (eqb (g (phase w)) 0) (refused 5) (ap (λ (k : ℕ). eqb k 0) (A (phase w) l))
+          (λ c. ap (λ (k : ℕ). giving g w (keeps-new-node (row-of k))) (A (phase w) l)
+            ∙ giving-same w l (keeps-new-node (row-of (f (phase w)))) (λ t. busy-kept f w b c .new-node-in t))))
+
   pub call-same : (x : Call) → comes-to g x ≡ comes-to f x
   call-same (Call.make a b c d e) = refl
   call-same (Call.register v z) = register-same v z
@@ -302,3 +323,4 @@ module _ (p m n : ℕ) (f g : Cells) (H : Header-in p m n f) (A : (c : Cell) →
         (λ a. or-same (ltb h (f (birth i))) (ltb h (g (birth i))) (refused 9) (ap (ltb h) (A (birth i) l)) (λ b. refl))))
   call-same (Call.total w q h) = total-same w q h
   call-same (Call.step w) = step-same w
+  call-same (Call.abandon w) = abandon-same w

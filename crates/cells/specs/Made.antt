@@ -10,7 +10,7 @@ use borrow.Author.Tests.{ltb-false}
 use Rattle.definitions.specs.Cells.{Cell, Cells, workers, items-limit, nodes-limit, projects, counter-limit, place, items-start, nodes-start, needed, cells-of}
 use Rattle.definitions.specs.Answers.{Outcome, unless, refused, _⇒_, accepted, refusal}
 use Rattle.definitions.specs.Damage.{any-of, sizes-outside, header-damaged}
-use Rattle.definitions.specs.Calls.{Call, make, register, v-read, v-cas, take-snapshot, read-snapshot, total, step, Result, outcome, on-catalogue, leaving, fresh, making, registering, starting-v-read, starting-v-cas, starting-take-snapshot, starting-read-snapshot, starting-total, stepping}
+use Rattle.definitions.specs.Calls.{Call, make, register, v-read, v-cas, take-snapshot, read-snapshot, total, step, abandon, Result, outcome, on-catalogue, leaving, fresh, making, registering, starting-v-read, starting-v-cas, starting-take-snapshot, starting-read-snapshot, starting-total, stepping, abandoning}
 use Rattle.cells.specs.Stands.{Stands, place-below, place-past-sizes}
 use Rattle.cells.specs.Words.{Sized}
 
@@ -24,6 +24,7 @@ comes-to f (take-snapshot w) = starting-take-snapshot f w
 comes-to f (read-snapshot w i h) = starting-read-snapshot f w i h
 comes-to f (total w q h) = starting-total f w q h
 comes-to f (step w) = stepping f w
+comes-to f (abandon w) = abandoning f w
 
 abbrev pub is-make : Call → Bool
 is-make (make p m n q c) = true
@@ -34,6 +35,7 @@ is-make (take-snapshot w) = false
 is-make (read-snapshot w i h) = false
 is-make (total w q h) = false
 is-make (step w) = false
+is-make (abandon w) = false
 
 -- Any call but make is what it comes to on the words' own cells, unless the header is damaged.
 pub on-words : (ws : List ℕ) (x : Call) → is-make x ≡ false → outcome ws x ≡ on-catalogue ws (λ f. comes-to f x)
@@ -45,6 +47,7 @@ on-words ws (take-snapshot w) e = unfold outcome in refl
 on-words ws (read-snapshot w i h) e = unfold outcome in refl
 on-words ws (total w q h) e = unfold outcome in refl
 on-words ws (step w) e = unfold outcome in refl
+on-words ws (abandon w) e = unfold outcome in refl
 
 pub outcome-comes : (ws : List ℕ) (x : Call) → is-make x ≡ false → header-damaged ws ≡ false → outcome ws x ≡ leaving ws (comes-to (cells-of ws) x)
 outcome-comes ws x other sound = on-words ws x other ∙ ap (λ (b : Bool). leaving ws (unless (b ⇒ 2 ∷ []) (comes-to (cells-of ws) x))) sound

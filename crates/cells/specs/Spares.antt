@@ -12,8 +12,8 @@ use Rattle.definitions.specs.Cells.{project, handle, noted, Cells, Assignment, 
 use Rattle.definitions.specs.Answers.{Outcome, Refusal, unless, _⇒_, accepts}
 use Rattle.definitions.specs.Phases.{row-of, table, closing-phase, total-start, v-read-start, v-cas-start, take-snapshot-start, read-snapshot-start}
 use Rattle.definitions.specs.Damage.{kept-tests, sum, inside-item, bad-handle, any-of, any-from, bad-item, bad-value, keeps-node, keeps-new-node, arguments-damaged, kept-damaged, running-damaged, worker-damaged, step-damaged, item-damaged, first-damaged}
-use Rattle.definitions.specs.Lines.{Line, line, lines, line-of-phase, idle, fetch, help-20, help-21, help-22, fetch-head, line-20, line-21, line-22, line-39, line-43, line-45, line-46, line-48, line-50, line-52, line-5, line-6, line-34, total-32, total-34, closing, no-node, node-to-take, taking, succeeds-22, succeeds-46, counter-full, succeeds-6, too-new, to-older}
-use Rattle.definitions.specs.Calls.{Call, no-worker, busy, sound-item, registering, starting-v-read, starting-v-cas, starting-take-snapshot, starting-read-snapshot, starting-total, stepping}
+use Rattle.definitions.specs.Lines.{Line, line, lines, line-of-phase, idle, fetch, help-20, help-21, help-22, fetch-head, line-20, line-21, line-22, line-39, line-43, line-45, line-46, line-48, line-50, line-52, line-5, line-6, line-34, total-32, total-34, closing, no-node, node-to-take, taking, succeeds-22, succeeds-46, counter-full, succeeds-6, too-new, to-older, returning, returned-node}
+use Rattle.definitions.specs.Calls.{Call, no-worker, busy, sound-item, registering, starting-v-read, starting-v-cas, starting-take-snapshot, starting-read-snapshot, starting-total, stepping, holds-node, returned-if-held, abandoning}
 use Rattle.cells.specs.Update.{Proper, record-proper}
 use Rattle.cells.specs.Made.{comes-to}
 use Rattle.cells.specs.Rows.{by-test, Rows, at-phase, Passed, refused-or}
@@ -78,6 +78,12 @@ kept-in r f w e = record {
   node-in = λ t. leb-false _ _ (where-asked (keeps-node r) _ (none-at (kept-tests r f w) 0 (second-false (arguments-damaged r f w) _ e)) t);
   new-node-in = λ t. leb-false _ _ (where-asked (keeps-new-node r) _ (none-at (kept-tests r f w) 1 (second-false (arguments-damaged r f w) _ e)) t);
   item-in = arguments-in r f w (first-false (arguments-damaged r f w) _ e) }
+
+-- and so a busy worker's record
+pub busy-kept : (f : Cells) (w : ℕ) → worker-damaged f w ≡ false → eqb (f (phase w)) 0 ≡ false → Kept-in (row-of (f (phase w))) f w
+busy-kept f w e b = kept-in (row-of (f (phase w))) f w
+    (where-asked (not (eqb (f (phase w)) 0)) (running-damaged (row-of (f (phase w))) f w)
+      (second-false (ltb 35 (f (phase w))) (not (eqb (f (phase w)) 0) && running-damaged (row-of (f (phase w))) f w) e) (ap not b))
 
 -- A catalogue's header, as far as it says which cells stand.
 pub record Header-in (p m n : ℕ) (f : Cells) : Type 0 where
@@ -241,9 +247,7 @@ module _ (p m n : ℕ) (f : Cells) (H : Header-in p m n f) where
       ∷ (inside-item (row-of (f (phase w))) && item-damaged f (f (item w))) ⇒ 2 ∷ line-of-phase (f (phase w)) .damaged f w ⇒ 2 ∷ [])
       (line-of-phase (f (phase w)) .does f w)
       (λ k. line-fine w (worker-in w (k .0)) (f (phase w)) (ltb-false 35 (f (phase w)) (first-false (ltb 35 (f (phase w))) (known w) (k .1 .0)))
-        (kept-in (row-of (f (phase w))) f w
-        (where-asked (not (eqb (f (phase w)) 0)) (running-damaged (row-of (f (phase w))) f w) (second-false (ltb 35 (f (phase w))) (known w) (k .1 .0))
-            (ap not (k .1 .1 .1 .0)))))
+        (busy-kept f w (k .1 .0) (k .1 .1 .1 .0)))
 
   register-fine : (v z : ℕ) → Fine (registering f v z)
   unfolding registering
@@ -261,6 +265,22 @@ module _ (p m n : ℕ) (f : Cells) (H : Header-in p m n f) where
   start-fine w ph i o y h q k rs =
       unless-fine (no-worker f w ⇒ 3 ∷ rs) (accepts 0 (record-of w ph i o y h q k)) (λ z. record-proper p m n w ph i o y h q k (worker-in w (z .0)))
 
+  -- an abandoned worker's node, where it holds one, and its record
+  returned-fine : (w : ℕ) → Kept-in (row-of (f (phase w))) f w → Proper p m n (returned-if-held f w)
+  returned-fine w k = at (holds-node f w) refl
+    where
+      at : (b : Bool) → holds-node f w ≡ b → Proper p m n (cond b (returning f w) [])
+      at true e = (omega (arith, k .new-node-in e, H .used-in), omega arith, (omega arith, omega arith, tt))
+      at false e = tt
+
+  abandon-fine : (w : ℕ) → Fine (abandoning f w)
+  unfolding abandoning
+  abandon-fine w =
+      unless-fine (no-worker f w ⇒ 3 ∷ worker-damaged f w ⇒ 2 ∷ eqb (f (phase w)) 0 ⇒ 5 ∷ (holds-node f w && returned-node f w) ⇒ 2 ∷ [])
+      (accepts 0 (returned-if-held f w ++ cleared w))
+      (λ k. both (returned-if-held f w) (cleared w) (returned-fine w (busy-kept f w (k .1 .0) (k .1 .1 .0)))
+        (record-proper p m n w 0 0 0 0 0 0 0 (worker-in w (k .0))))
+
   pub call-fine : (x : Call) → Fine (comes-to f x)
   call-fine (Call.make a b c d e) = tt
   call-fine (Call.register v z) = register-fine v z
@@ -273,3 +293,4 @@ module _ (p m n : ℕ) (f : Cells) (H : Header-in p m n f) where
   call-fine (Call.total w q h) = unfold starting-total in
       start-fine w (cond (eqb (f items) 0) closing-phase total-start) 0 0 0 h q (f items) (free w ++ (bad-value f q ⇒ 7 ∷ bad-handle f h ⇒ 8 ∷ []))
   call-fine (Call.step w) = step-fine w
+  call-fine (Call.abandon w) = abandon-fine w

@@ -9,9 +9,9 @@ use tables::nodes;
 use tables::phases::{LOST, PUBLISHED};
 ghost use mathlib.Core.Path.{_≡_};
 ghost use Prim.Native.Nat.{ℕ};
-ghost use Rattle.definitions.specs.Cells.{cells-at};
-ghost use Rattle.definitions.specs.Lines.{line, no-words, its-value, returned-node, line-43, line-46, line-48, line-50, line-52};
-ghost use Rattle.endings.specs.Stepped.{Steps, Ready, In-item, Has-node, Has-new-node};
+ghost use Rattle.definitions.specs.Cells.{cells-at, written};
+ghost use Rattle.definitions.specs.Lines.{line, no-words, its-value, returned-node, returning, line-43, line-46, line-48, line-50, line-52};
+ghost use Rattle.endings.specs.Stepped.{Steps, Ready, In-item, Has-node, Has-new-node, Can-return};
 
 // Lines 43 and 44: another value answers 0; new and old alike answer 1.
 pub fn line_43(words: &mut [u32], items_at: usize, nodes_at: usize, w: usize) -> Answer
@@ -63,10 +63,10 @@ pub fn line_48(words: &mut [u32], items_at: usize, nodes_at: usize, w: usize) ->
     finish(words, w, 1, steps)
 }
 
-// What line 50 uses: the link of the new node, and the first node given back.
-fn returned_is_damaged(words: &[u32], items_at: usize, nodes_at: usize, w: usize) -> bool
-    requires { ⌜ Ready «items_at» «nodes_at» w (now words) × Has-new-node w (now words) ⌝ }
-    ensures { λ r. ⌜ r ≡ returned-node (cells-at «items_at» «nodes_at» (now (words .entry))) w ⌝ }
+// What giving the new node back uses: its link, and the first node given back.
+pub fn returned_is_damaged(words: &[u32], nodes_at: usize, w: usize) -> bool
+    requires { ⌜ Can-return «nodes_at» w (now words) ⌝ }
+    ensures { λ r. ⌜ ((a : ℕ) → r ≡ returned-node (cells-at a «nodes_at» (now (words .entry))) w) ⌝ }
 {
     let at = HEADER_WORDS + WORKER_WORDS * w;
     let n = words[at + NEW_NODE] as usize;
@@ -77,6 +77,18 @@ fn returned_is_damaged(words: &[u32], items_at: usize, nodes_at: usize, w: usize
     first_is_damaged(words, nodes_at)
 }
 
+// The new node is given back: it becomes the first of those that wait.
+pub fn give_back(words: &mut [u32], nodes_at: usize, w: usize)
+    requires { ⌜ Can-return «nodes_at» w (now words) ⌝ }
+    ensures { λ _. ⌜ ((a : ℕ) → now (words .exit) ≡ written a «nodes_at» (now (words .entry)) (returning (cells-at a «nodes_at» (now (words .entry))) w)) ⌝ }
+{
+    let given = words[HEADER_WORDS + WORKER_WORDS * w + NEW_NODE];
+    let n = given as usize;
+    let back = words[GIVEN_BACK];
+    nodes::write(&mut words[nodes_at..], n, OLDER, back);
+    words[GIVEN_BACK] = given + 1;
+}
+
 // Line 50: the new node is given back.
 pub fn line_50(words: &mut [u32], items_at: usize, nodes_at: usize, w: usize) -> Answer
     requires { ⌜ Ready «items_at» «nodes_at» w (now words) × Has-new-node w (now words) ⌝ }
@@ -85,14 +97,10 @@ pub fn line_50(words: &mut [u32], items_at: usize, nodes_at: usize, w: usize) ->
     let at = HEADER_WORDS + WORKER_WORDS * w;
     let phase = words[at + PHASE];
     let steps = words[at + STEPS];
-    let given = words[at + NEW_NODE];
-    let n = given as usize;
-    let back = words[GIVEN_BACK];
-    if returned_is_damaged(words, items_at, nodes_at, w) {
+    if returned_is_damaged(words, nodes_at, w) {
         return refuse(2);
     }
-    nodes::write(&mut words[nodes_at..], n, OLDER, back);
-    words[GIVEN_BACK] = given + 1;
+    give_back(words, nodes_at, w);
     go_on(words, w, phase + 1, steps) // to line 51
 }
 

@@ -6,11 +6,11 @@ use lib.Dec.{ltb, leb, eqb}
 use lib.ListN.{length, replicate, drop}
 use Rattle.definitions.specs.declared.Answer.{Answer}
 use Rattle.definitions.specs.declared.PhaseRow.{PhaseRow}
-use Rattle.definitions.specs.Cells.{Cells, Assignment, _≔_, workers, items-limit, projects, counter, items, phase, item, value, older, stamp, head, birth, size, needed, items-at, nodes-at, cells-of, written, record-of}
+use Rattle.definitions.specs.Cells.{Cells, Assignment, _≔_, workers, items-limit, projects, counter, items, phase, item, value, older, stamp, head, birth, size, needed, items-at, nodes-at, cells-of, written, record-of, cleared}
 use Rattle.definitions.specs.Answers.{Outcome, Refusal, _⇒_, refusal, accepted, refused, unless, accepts}
 use Rattle.definitions.specs.Phases.{row-of, v-read-start, v-cas-start, take-snapshot-start, read-snapshot-start, total-start, closing-phase}
-use Rattle.definitions.specs.Damage.{any-of, sizes-outside, header-damaged, worker-damaged, step-damaged, inside-item, item-damaged, first-damaged, bad-value, bad-handle, bad-item}
-use Rattle.definitions.specs.Lines.{Line, no-node, node-to-take, taking, line-of-phase}
+use Rattle.definitions.specs.Damage.{any-of, sizes-outside, header-damaged, worker-damaged, step-damaged, keeps-new-node, inside-item, item-damaged, first-damaged, bad-value, bad-handle, bad-item}
+use Rattle.definitions.specs.Lines.{Line, no-node, node-to-take, taking, returning, returned-node, line-of-phase}
 
 pub data Call : Type 0 where
   make : (p m n q c : ℕ) → Call
@@ -21,8 +21,9 @@ pub data Call : Type 0 where
   read-snapshot : (w i h : ℕ) → Call
   total : (w q h : ℕ) → Call
   step : (w : ℕ) → Call
+  abandon : (w : ℕ) → Call
 
--- What every start and step tests first: the worker's number, then its record.
+-- What every start, step and abandon tests first: the worker's number, then its record.
 abbrev pub no-worker : Cells → ℕ → Bool
 no-worker m w = leb (m workers) w
 abbrev pub busy : Cells → ℕ → Bool
@@ -76,6 +77,18 @@ stepping m w =
     ∷ (inside-item (row-of (m (phase w))) && item-damaged m (m (item w))) ⇒ 2 ∷ l .damaged m w ⇒ 2 ∷ [])
     (l .does m w)
 
+-- Abandon: the worker's record becomes idle. A node that it took at 45 and has not published, which it holds at 46 and 50, goes back as line 50
+-- returns it. Its item is not used.
+abbrev pub holds-node : Cells → ℕ → Bool
+holds-node m w = keeps-new-node (row-of (m (phase w)))
+abbrev pub returned-if-held : Cells → ℕ → List Assignment
+returned-if-held m w = cond (holds-node m w) (returning m w) []
+
+unfoldable pub abandoning : Cells → ℕ → Outcome
+abandoning m w =
+    unless (no-worker m w ⇒ 3 ∷ worker-damaged m w ⇒ 2 ∷ eqb (m (phase w)) 0 ⇒ 5 ∷ (holds-node m w && returned-node m w) ⇒ 2 ∷ [])
+    (accepts 0 (returned-if-held m w ++ cleared w))
+
 -- The answer of a call and the words after it.
 pub record Result : Type 0 where
   pub answer : Answer
@@ -108,3 +121,4 @@ outcome ws (take-snapshot w) = on-catalogue ws (λ m. starting-take-snapshot m w
 outcome ws (read-snapshot w i h) = on-catalogue ws (λ m. starting-read-snapshot m w i h)
 outcome ws (total w q h) = on-catalogue ws (λ m. starting-total m w q h)
 outcome ws (step w) = on-catalogue ws (λ m. stepping m w)
+outcome ws (abandon w) = on-catalogue ws (λ m. abandoning m w)

@@ -126,6 +126,6 @@ stamp-damaged m n = bad-stamp m (m (stamp n))
 abbrev pub node-damaged : Cells → ℕ → Bool
 node-damaged m n = (value-damaged m n || older-damaged m n) || stamp-damaged m n
 
--- The first node given back, where one waits: register, 45 and 50 use it.
+-- The first node given back, where one waits: register, 45 and 50 use it, and an abandon that gives a node back.
 abbrev pub first-damaged : Cells → Bool
 first-damaged m = not (eqb (m given-back) 0) && node-damaged m (m given-back - 1)

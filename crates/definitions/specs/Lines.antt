@@ -73,9 +73,10 @@ unfoldable pub line-52 : Cells → ℕ → Outcome
 line-52 m w = answers m w 0 []
 
 -- line 50: delete newN
+abbrev pub returning : Cells → ℕ → List Assignment
+returning m w = older (m (new-node w)) ≔ m given-back ∷ given-back ≔ (m (new-node w) + 1) ∷ []
 unfoldable pub line-50 : Cells → ℕ → Outcome
-line-50 m w =
-    goes-on m w (m (phase w) + 1) (older (m (new-node w)) ≔ m given-back ∷ given-back ≔ (m (new-node w) + 1) ∷ [])
+line-50 m w = goes-on m w (m (phase w) + 1) (returning m w)
 
 -- line 5: ts = timestamp
 abbrev pub counter-full : Cells → Bool

@@ -71,6 +71,15 @@ pub record Can-take (b : ℕ) (ws : List ℕ) : Type 0 where
   pub few-nodes : getD ws 2 0 ≤ 4096
   pub some : getD ws 8 0 ≡ 0 → getD ws 7 0 < getD ws 2 0
 
+-- The new node of worker w can be given back: it was used, and it and the first node given back have their places.
+pub record Can-return (b w : ℕ) (ws : List ℕ) : Type 0 where
+  pub worker : 16 + 16 * w + 16 ≤ b
+  pub nodes : b + node-words * getD ws 2 0 ≤ length ws
+  pub used : getD ws 7 0 ≤ getD ws 2 0
+  pub given-back : getD ws 8 0 ≤ getD ws 7 0
+  pub few-nodes : getD ws 2 0 ≤ 4096
+  pub new-node : getD ws (16 + 16 * w + 9) 0 < getD ws 7 0
+
 -- Line 34's damage, as the node part has it.
 abbrev pub node-tested : List ℕ → (n handle projects used counter : ℕ) → Bool
 node-tested ns n handle projects used counter =

@@ -1,4 +1,4 @@
-// How a step ends: it goes on, finishes, ends with 11 or 12, or is refused; and the whole of a worker's record.
+// How a call ends: it is refused, or accepted; a step goes on, finishes, or ends with 11 or 12. And the whole of a worker's record.
 use definitions::Answer;
 use tables::fields::{
     HANDLE, HEADER_WORDS, ITEM, NEW, NEW_NODE, NODE, NOTED, OLD, PHASE, PROJECT, SEEN, STEPS, SUM_HIGH, SUM_LOW, WORKER_WORDS,
@@ -7,7 +7,7 @@ ghost use mathlib.Core.Path.{_≡_};
 ghost use Prim.Native.Nat.{_+_, _*_, _<_, _≤_};
 ghost use lib.ListN.{length};
 ghost use Rattle.definitions.specs.Cells.{written, record-of, cleared};
-ghost use Rattle.definitions.specs.Answers.{finished, running, refusal};
+ghost use Rattle.definitions.specs.Answers.{finished, running, accepted, refusal};
 ghost use Rattle.endings.specs.Stepped.{moved-on};
 
 // A refusal, which changes no word.
@@ -16,6 +16,13 @@ pub fn refuse(number: u32) -> Answer
     ensures { λ r. ⌜ r ≡ refusal number 0 ⌝ }
 {
     Answer { code: 16 + number, value: 0, steps: 0, stamped: 0, operator: 0 }
+}
+
+// A call that is not a step, and is not refused.
+pub fn accept(value: u64) -> Answer
+    ensures { λ r. ⌜ r ≡ accepted value ⌝ }
+{
+    Answer { code: 2, value, steps: 0, stamped: 0, operator: 0 }
 }
 
 // All sixteen words of worker w's record: a phase and an operation's arguments, everything else zero.

@@ -81,11 +81,13 @@ module _ (r : PhaseRow) (m : Cells) (w : ℕ) where
       let told = some-of (eqb (r .line) 20 ∷ eqb (r .line) 21 ∷ eqb (r .line) 22 ∷ eqb (r .line) 34 ∷ eqb (r .line) 39 ∷ eqb (r .line) 43 ∷ eqb (r .line) 45 ∷ eqb (r .line) 46 ∷ []) k h in
       leb-false (m used) (m (node w)) (and-true (keeps-node r) (bad-node m (m (node w))) told (none-of (kept-tests r m w) 0 (keeps e)))
 
-  pub new-node-kept : late r m w ≡ false → r .line ≡ 50 → m (new-node w) < m used
+  -- The new node, at the two lines that keep one: it was used.
+  pub new-node-used : kept-damaged r m w ≡ false → keeps-new-node r ≡ true → m (new-node w) < m used
   unfolding kept-damaged
-  new-node-kept e h =
-      let told = some-of (eqb (r .line) 46 ∷ eqb (r .line) 50 ∷ []) 1 (eq-eqb (r .line) 50 h) in
-      leb-false (m used) (m (new-node w)) (and-true (keeps-new-node r) (bad-node m (m (new-node w))) told (none-of (kept-tests r m w) 1 (keeps e)))
+  new-node-used e told = leb-false (m used) (m (new-node w)) (and-true (keeps-new-node r) (bad-node m (m (new-node w))) told (none-of (kept-tests r m w) 1 e))
+
+  pub new-node-kept : late r m w ≡ false → r .line ≡ 50 → m (new-node w) < m used
+  new-node-kept e h = new-node-used (keeps e) (some-of (eqb (r .line) 46 ∷ eqb (r .line) 50 ∷ []) 1 (eq-eqb (r .line) 50 h))
 
   pub seen-kept : late r m w ≡ false → r .line ≡ 6 → m (seen w) < m counter-limit
   seen-kept e h =
@@ -196,7 +198,7 @@ regrouped false false true six = refl
 regrouped false false false six = refl
 
 module _ (m : Cells) (w : ℕ) (known : m (phase w) ≤ 35) (busy : m (phase w) ≡ 0 → ⊥) where
-  running-is : worker-damaged m w ≡ running-damaged (row-of (m (phase w))) m w
+  pub running-is : worker-damaged m w ≡ running-damaged (row-of (m (phase w))) m w
   running-is =
       ap (λ (b : Bool). b || (not (eqb (m (phase w)) 0) && running-damaged (row-of (m (phase w))) m w)) (le-ltb 35 (m (phase w)) known)
       ∙ ap (λ (b : Bool). not b && running-damaged (row-of (m (phase w))) m w) (ne-eqb (m (phase w)) 0 busy)

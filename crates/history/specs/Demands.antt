@@ -2,6 +2,7 @@
 -- `Demands` is all that is promised.
 use mathlib.Core.Path.{_≡_}
 use mathlib.Core.Logic.{_≢_, _⊎_, _↔_}
+use mathlib.Core.Bool.{Bool}
 use mathlib.Core.List.{List, _∷_}
 use Prim.Native.Nat.{ℕ, pred, _+_, _≤_, _<_}
 use lib.ListN.{length}
@@ -9,7 +10,7 @@ use Rattle.definitions.specs.declared.Answer.{Answer}
 use Rattle.definitions.specs.Calls.{Call, outcome}
 use Rattle.cells.specs.WellFormed.{Well-formed}
 use Rattle.history.specs.Definition1.{In, Operation, register, v-read, v-cas, take-snapshot, read-snapshot, total, Object, Born}
-use Rattle.history.specs.Notes.{Deed, Ending, goes-on, answers, ends-with, Note, registered, started, stepped, start-of, Catalogue, note-by, Run-call-by,
+use Rattle.history.specs.Notes.{Deed, Ending, goes-on, answers, ends-with, given-up, Note, registered, started, stepped, abandoned, start-of, Catalogue, note-by, Run-call-by,
     damaged-code, ledger, nodes-in-use, Effect, snapshot, object-at}
 use Rattle.history.specs.Statements.{fate-of, Free, Promises}
 
@@ -22,13 +23,14 @@ abbrev pub Least : (ℕ → Type 0) → (k : ℕ) → Type 0
 Least P k = P k × ((j : ℕ) → P j → k ≤ j)
 
 -- An answer's numbers; and those of a step that left its operation so, with n lines executed: 01 and value 0 while it runs, 00 and the answer, 16 + the
--- number that it ended with and value 0.
+-- number that it ended with and value 0. No step abandons its worker.
 abbrev pub numbers : (code value steps : ℕ) → Answer
 numbers c v n = record { code = c; value = v; steps = n; stamped = 0; operator = 0 }
-abbrev pub step-numbers : Ending → (n : ℕ) → Answer
-step-numbers goes-on n = numbers 1 0 n
-step-numbers (answers x) n = numbers 0 x n
-step-numbers (ends-with number) n = numbers (16 + number) 0 n
+abbrev pub Step-numbers : Ending → (n : ℕ) → Answer → Type 0
+Step-numbers goes-on n a = a ≡ numbers 1 0 n
+Step-numbers (answers x) n a = a ≡ numbers 0 x n
+Step-numbers (ends-with number) n a = a ≡ numbers (16 + number) 0 n
+Step-numbers given-up n a = ⊥
 
 module _ (run : List Note) (effects : List Effect) where
   -- ---- starts
@@ -65,6 +67,7 @@ module _ (run : List Note) (effects : List Effect) where
     Applies (Call.total w r h) k =
         Given 3 (p ≤ w) k ⊎ (Given 4 (Free run w → ⊥) k ⊎ (Given 7 (q ≤ r) k ⊎ Given 8 ((t : ℕ) → In (snapshot t h) effects → ⊥) k))
     Applies (Call.step w) k = Given 3 (p ≤ w) k ⊎ Given 5 (Free run w) k
+    Applies (Call.abandon w) k = Given 3 (p ≤ w) k ⊎ Given 5 (Free run w) k
 
 -- ---- all that is promised: of the words now, where run has the notes and the catalogue was made with p workers, m items, n nodes, q projects and a
 -- counter up to c. It is said of any catalogue f, so that wrong ones can be refuted, and promised of `outcome`.
@@ -90,13 +93,17 @@ pub record Demands-by (f : Catalogue) (p m n q c : ℕ) (now : List ℕ) (run : 
   -- an operation that goes on is never refused a step
   pub never-stuck : (o : ℕ) → fate-of run o .ending ≡ goes-on →
     (line : ℕ) × (d : Deed) × (e : Ending) × (note-by f now (Call.step (fate-of run o .worker)) ≡ stepped (fate-of run o .worker) line d e)
-  -- the numbers of an answer: of a start 02, value 0 and steps 0; of a register 02, its item and steps 0; of a step by how it left its operation, with
-  -- the number of lines that the operation has executed, that line included
+  -- a worker is abandoned exactly when it is there and not free; then it is free
+  pub abandons : (w : ℕ) → ((held : Bool) × (note-by f now (Call.abandon w) ≡ abandoned w held)) ↔ ((w < p) × (Free run w → ⊥))
+  pub frees : (w : ℕ) (held : Bool) → note-by f now (Call.abandon w) ≡ abandoned w held → Free (abandoned w held ∷ run) w
+  -- the numbers of an answer: of a start and of an abandon 02, value 0 and steps 0; of a register 02, its item and steps 0; of a step by how it left its
+  -- operation, with the number of lines that the operation has executed, that line included
   pub every-start : (w : ℕ) (op : Operation) → note-by f now (start-of w op) ≡ started w op → f now (start-of w op) .answer ≡ numbers 2 0 0
+  pub every-abandon : (w : ℕ) (held : Bool) → note-by f now (Call.abandon w) ≡ abandoned w held → f now (Call.abandon w) .answer ≡ numbers 2 0 0
   pub every-register : (i v s : ℕ) → Run-call-by f now (Call.register v s) → note-by f now (Call.register v s) ≡ registered i v s →
     f now (Call.register v s) .answer ≡ numbers 2 i 0
   pub every-step : (w line : ℕ) (d : Deed) (e : Ending) → note-by f now (Call.step w) ≡ stepped w line d e →
-    f now (Call.step w) .answer ≡ step-numbers e (length (line ∷ fate-of run (ledger run .current w) .lines))
+    Step-numbers e (length (line ∷ fate-of run (ledger run .current w) .lines)) (f now (Call.step w) .answer)
   -- a call is refused exactly where a number applies to it, with the least that does, value 0 and steps 0
   pub refused : (x : Call) (k : ℕ) → Run-call-by f now x → (f now x .answer ≡ numbers (16 + k) 0 0) ↔ Least (Applies run effects p m n q x) k
 

@@ -23,6 +23,7 @@ kept y (Notes.stepped w line (Notes.publishes i v) e) past a = a
 kept y (Notes.stepped w line (Notes.stamps i) e) past a = among-insert _ y (effects past) a
 kept y (Notes.stepped w line (Notes.moves h) e) past a = among-insert _ y (effects past) a
 kept y (Notes.stepped w line Notes.nothing e) past a = a
+kept y (Notes.abandoned w b) past a = a
 
 -- what a note brings stays in the longer list
 brought : (y : Effect) (x : Note) (past run : List Note) → In y (effects (x ∷ past)) → Follows x past run → In y (effects run)

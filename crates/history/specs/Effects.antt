@@ -5,7 +5,7 @@ use mathlib.Core.List.{List, [], _∷_}
 use Prim.Native.Nat.{ℕ}
 use lib.Dec.{ltb, eqb}
 use lib.ListN.{length}
-use Rattle.history.specs.Notes.{fetches, finds, publishes, stamps, moves, nothing, Note, quiet, registered, started, stepped, ledger, Effect,
+use Rattle.history.specs.Notes.{fetches, finds, publishes, stamps, moves, nothing, Note, quiet, registered, started, stepped, abandoned, ledger, Effect,
     birth, change, snapshot, time}
 
 -- into its place by time
@@ -25,6 +25,7 @@ last-published i (stepped w line (publishes k v) e ∷ past) = cond (eqb i k) (v
 last-published i (stepped w line (stamps k) e ∷ past) = last-published i past
 last-published i (stepped w line (moves h) e ∷ past) = last-published i past
 last-published i (stepped w line nothing e ∷ past) = last-published i past
+last-published i (abandoned w held ∷ past) = last-published i past
 
 -- when worker w stepped last
 abbrev pub last-step : ℕ → List Note → ℕ
@@ -42,3 +43,4 @@ effects (stepped w line (publishes i v) e ∷ past) = effects past
 effects (stepped w line (stamps i) e ∷ past) = let h = last-published i past in insert (change (last-step w past) i (h .0) (h .1)) (effects past)
 effects (stepped w line (moves h) e ∷ past) = insert (snapshot (length past) h) (effects past)
 effects (stepped w line nothing e ∷ past) = effects past
+effects (abandoned w held ∷ past) = effects past

@@ -28,6 +28,7 @@ note-item (Notes.quiet x) = 0
 note-item (Notes.registered i v s) = i
 note-item (Notes.started w op) = 0
 note-item (Notes.stepped w k d e) = 0
+note-item (Notes.abandoned w b) = 0
 
 module _ (s : Catalogue) (invariant : Invariant s) (run : List Note) (trace : Traced s run) (moment : Moments s run) (listed : Effected s run) where
   there : (i j : ℕ) → j < s .memory .item i .valid → i < s .memory .items

@@ -10,7 +10,7 @@ use Rattle.history.specs.Tools.{put, put-all, put-same, put-other, by-eq
 use Rattle.history.specs.Notes.{Deed, Note, ledger, Effect, birth, change, snapshot, object-at, changes-between}
 use Rattle.history.specs.Effects.{insert, last-published, effects}
 use Rattle.history.specs.Notes as Notes
-use Rattle.history.specs.Machine.{Item, Memory, Limits, found, node-to-take, Operation, take-snapshot, Phase, line-number, nothing, counts,
+use Rattle.history.specs.Machine.{Camera, left-off, holds-node, Item, Memory, Limits, found, node-to-take, Operation, take-snapshot, Phase, line-number, nothing, counts,
     publishes, stamps, takes-node, gives-back, Comes, line, memory-after, published, stamped, newborn, Worker, busy, Catalogue, affect, tick, begun,
     registered, fresh, Event, happens, after-events}
 use Rattle.history.specs.Machine as Machine
@@ -21,6 +21,7 @@ use Rattle.history.specs.EachLine.{every-line}
 use Rattle.history.specs.Places.{InOperation, WorkerRight, Invariant}
 use Rattle.history.specs.Run.{run-right, registered-later}
 use Rattle.history.specs.NodeCount.{settle-memory, sum-to}
+use Rattle.history.specs.Step.{left-alone, left-later}
 use Rattle.history.specs.MachineNotes.{event-note, machine-notes, phase-deed, ending, after-step, event-cases}
 use Rattle.history.specs.LedgerRight.{InLedger, Agrees, agrees}
 use Rattle.history.specs.Trace.{PhaseTraced, WorkerTraced, Traced}
@@ -74,6 +75,13 @@ module _ (s : Catalogue) (invariant : Invariant s) (run : List Note) (A : Agrees
   after-quiet : (x : Notes.Look) → Effected (tick s) (Notes.quiet x ∷ run)
   unfolding tick effects last-published
   after-quiet x = record { memory = E .memory; newest = E .newest }
+
+  after-abandon : (w o : ℕ) (ph : Phase) → Effected (tick (left-off s w o ph)) (Notes.abandoned w (holds-node ph) ∷ run)
+  unfolding tick effects last-published
+  after-abandon w o ph = record {
+    memory = same-effects (left-later s invariant w o ph) (invariant .kept .memory) (effects run) (E .memory)
+      (λ i. ap (λ (it : Item). it .valid) (left-alone s w o ph .item i)) (ap (λ (k : Camera). k .counter) (left-alone s w o ph .camera)) (left-alone s w o ph .items);
+    newest = λ i p. E .newest i (omega (arith, left-alone s w o ph .items)) ∙ ap head-of (sym (left-alone s w o ph .item i)) }
 
   after-start : (w : ℕ) (op : Operation) → Effected (tick (begun s w op)) (Notes.started w op ∷ run)
   unfolding tick begun effects last-published
@@ -265,7 +273,8 @@ event-effected s run invariant A tr E =
       (λ x q. after-quiet s invariant run A tr E x)
       (λ v z p. after-register s invariant run A tr E v z (found (node-to-take (s .memory))))
       (λ w op b f p. after-start s invariant run A tr E w op)
-      (λ w o l ph b e. step-effected s invariant run A tr E w o l ph e) (omega arith)
+      (λ w o l ph b e. step-effected s invariant run A tr E w o l ph e)
+      (λ w o l ph b e. after-abandon s invariant run A tr E w o ph) (omega arith)
 
 -- the list of effects of every run
 pub effected : (limits : Limits) (es : List Event) → Effected (after-events limits es) (machine-notes limits es)

@@ -1,5 +1,5 @@
--- Three runs with their one order, computed on the machine of versions: in none of them is it the order of the answers. Crate order shows these runs
--- on words (HelpedRun, LostRun, SharedRun): the order there is this one.
+-- Four runs with their one order, computed on the machine of versions: in none of them is it the order of the answers. Crate order shows these runs
+-- on words (HelpedRun, LostRun, SharedRun, AbandonedRun): the order there is this one.
 use mathlib.Core.Path.{_≡_, refl, _∙_}
 use mathlib.Core.List.{List, [], _∷_, _++_, map}
 use Prim.Native.Nat.{ℕ}
@@ -7,7 +7,7 @@ use lib.ListN.{replicate}
 use Rattle.definitions.specs.Calls.{Call}
 use Rattle.history.specs.Tools.{put}
 use Rattle.history.specs.Machine.{Limits, first-free, node-to-take, used-next, all-but-first, one-taken, one-returned, after, total-at, line,
-    memory-after, place-after, ended, turned-away, affect, settle, tick, stepped, stepping, first-phase, begun, starting, registered, registering,
+    memory-after, place-after, ended, turned-away, affect, settle, tick, stepped, stepping, left, left-off, abandoning, first-phase, begun, starting, registered, registering,
     move, called, event-move, happens, fresh, after-events}
 use Rattle.history.specs.OrderList.{slot-onto, order-to}
 use Rattle.history.specs.NotesOrder.{notes-order, notes-order-is}
@@ -62,3 +62,17 @@ unfolding shared order-to slot-onto first-free node-to-take used-next all-but-fi
     place-after ended turned-away affect settle tick stepped stepping first-phase begun starting registered registering move event-move happens fresh
     after-events put
 shared-order = notes-order-is sizes (map called (made shared [])) ∙ refl
+
+-- A worker is abandoned after it published. Worker 0's vCAS (1) publishes at call 6 and is abandoned; worker 0 starts a takeSnapshot (8). Worker 1's
+-- vRead (9) finds the node without its stamp, and stamps it: its line 21 is call 12. Then worker 2's vCAS (17) takes a node and is abandoned before 46.
+unfoldable pub left-behind : List Call
+left-behind =
+    Call.register 1 100 ∷ Call.v-cas 0 0 1 2 ∷ steps 0 5
+    ++ (Call.abandon 0 ∷ Call.take-snapshot 0 ∷ Call.v-read 1 0 ∷ steps 1 3 ++ (Call.step 0 ∷ steps 1 2 ++ (Call.step 0 ∷ Call.v-cas 2 0 2 3 ∷ steps 2 4
+    ++ (Call.abandon 2 ∷ []))))
+
+pub left-behind-order : order-of left-behind ≡ 8 ∷ 9 ∷ 1 ∷ 0 ∷ []
+unfolding left-behind order-to slot-onto first-free node-to-take used-next all-but-first one-taken one-returned after total-at line memory-after
+    place-after ended turned-away affect settle tick stepped stepping left left-off abandoning first-phase begun starting registered registering move
+    event-move happens fresh after-events put
+left-behind-order = notes-order-is sizes (map called (made left-behind [])) ∙ refl

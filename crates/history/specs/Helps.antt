@@ -12,7 +12,7 @@ use Rattle.history.specs.Notes.{Deed, finds, Note, Fate, entered, ledger
 use Rattle.history.specs.Notes as Notes
 use Rattle.history.specs.NoteParts.{note-tag, note-line, note-deed, note-worker}
 use Rattle.history.specs.Statements.{Executed, Steps, Next}
-use Rattle.history.specs.Machine.{Limits, Phase, line-number, Worker, busy, Catalogue, Event, after-events}
+use Rattle.history.specs.Machine.{holds-node, Limits, Phase, line-number, Worker, busy, Catalogue, Event, after-events}
 use Rattle.history.specs.Places.{Invariant}
 use Rattle.history.specs.Run.{run-right}
 use Rattle.history.specs.MachineNotes.{event-note, machine-notes, event-cases}
@@ -112,6 +112,12 @@ module _ (run : List Note) (helps : Helps run) where
               (helps .found (ledger run .current w)))))
         (λ z. found-more run (Notes.stepped w k d e) o (ledger run .fate o .lines) (helps .found o))
 
+  more-found (Notes.abandoned w b) latest o =
+      put-all (λ (o : ℕ) (f : Fate). Found (Notes.abandoned w b ∷ run) o (f .lines)) (ledger run .fate) (ledger run .current w) _ o
+        (λ z. subst (λ (o : ℕ). Found (Notes.abandoned w b ∷ run) o (ledger run .fate (ledger run .current w) .lines)) (sym z)
+          (found-more run (Notes.abandoned w b) (ledger run .current w) (ledger run .fate (ledger run .current w) .lines) (helps .found (ledger run .current w))))
+        (λ z. found-more run (Notes.abandoned w b) o (ledger run .fate o .lines) (helps .found o))
+
   more-helps : (x : Note) → StepsOn x → Helps (x ∷ run)
   more-helps x latest = record { decides = more-decides x latest; found = more-found x latest }
 
@@ -130,7 +136,8 @@ module _ (run : List Note) (helps : Helps run) where
         (λ x q. more-helps (Notes.quiet x) (λ e. absurd (omega arith)))
         (λ v z p. more-helps (Notes.registered (s .memory .items) v z) (λ e. absurd (omega arith)))
         (λ w op b f p. more-helps (Notes.started w op) (λ e. absurd (omega arith)))
-        (λ w o l ph b is. more-helps _ (λ e. steps-on s A T w o l ph is)) (omega arith)
+        (λ w o l ph b is. more-helps _ (λ e. steps-on s A T w o l ph is))
+        (λ w o l ph b is. more-helps (Notes.abandoned w (holds-node ph)) (λ e. absurd (omega arith))) (omega arith)
 
 -- ---- in every run
 

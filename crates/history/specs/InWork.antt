@@ -10,7 +10,7 @@ use Rattle.history.specs.Tools.{put, put-all, by-test}
 use Rattle.history.specs.Notes.{Deed, Ending, Note, step-note}
 use Rattle.history.specs.Notes as Notes
 use Rattle.history.specs.Statements.{fate-of}
-use Rattle.history.specs.Machine.{Memory, Limits, Operation, Phase, line-number, Comes, goes-on, ends-with, answers-change, answers, line,
+use Rattle.history.specs.Machine.{left-off, Memory, Limits, Operation, Phase, line-number, Comes, goes-on, ends-with, answers-change, answers, line,
     Worker, idle, busy, Catalogue, settle, affect, tick, Move, is-idle, no-worker, step-answer, begun, registered, call, reply, move, stepping,
     stepped, refused, Event, after-events}
 use Rattle.history.specs.RightAnswers.{RefusedLines, no-node-left, counter-full, ComesRight}
@@ -18,6 +18,7 @@ use Rattle.history.specs.EachLine.{every-line}
 use Rattle.history.specs.Places.{InOperation, WorkerRight, Invariant}
 use Rattle.history.specs.Run.{run-right}
 use Rattle.history.specs.NodeCount.{settle-memory, same-limits}
+use Rattle.history.specs.Step.{left-alone}
 use Rattle.history.specs.MachineNotes.{machine-note, machine-notes, worker-line, worker-deed, phase-deed, ending, call-cases}
 use Rattle.history.specs.LedgerRight.{Runs, agrees}
 
@@ -45,12 +46,20 @@ module _ (s : Catalogue) (B : Below s) where
       below (answers-change x) = unfold tick settle affect in (below-put w idle p w')
       below (answers x τ j) = unfold tick settle affect in (below-put w idle p w')
 
+left : (s : Catalogue) → Below s → (w o : ℕ) (ph : Phase) → w < s .memory .limits .workers → Below (tick (left-off s w o ph))
+unfolding tick left-off
+left s B w o ph b w' q = subst (λ (y : Limits). w' < y .workers) (sym same) (below-put s B w idle b w' q)
+  where
+    same : left-off s w o ph .memory .limits ≡ s .memory .limits
+    same = left-alone s w o ph .limits
+
 pub call-below : (s : Catalogue) → Invariant s → Below s → (c : Call) → Below (call s c)
 unfolding call tick registered begun
 call-below s invariant B =
     call-cases s invariant (s .memory .limits .workers) (omega arith) (λ (x : Note) (s' : Catalogue). Below (tick s')) (λ x q. B) (λ v z p. B)
       (λ w op b f p. below-put s B w _ b)
       (λ w o l ph b e. after-line s B w o l ph b (line (s .now) (s .memory) ph .comes))
+      (λ w o l ph b e. left s B w o ph b)
 
 -- what a step of a worker in an operation is noted as
 pub noted-as : (w k : ℕ) (d : Deed) (n : List ℕ) (u : Comes) (op : Operation) (p : Bool) (t o : ℕ) (m : Memory) → ComesRight t o n m op p u →

@@ -8,10 +8,10 @@ use native.Mathlib.Omega.{arith}
 use lib.Dec.{T}
 use lib.ListN.{length}
 use Rattle.history.specs.Tools.{put, put-all, put-both, put-same, put-other, Same, eq, ne, same?}
-use Rattle.history.specs.Notes.{Note, Fate, Ledger, begins, continues, entered, ledger}
+use Rattle.history.specs.Notes.{stops, Note, Fate, Ledger, begins, continues, entered, ledger}
 use Rattle.history.specs.Notes as Notes
 use Rattle.history.specs.NoteParts.{ending-tag, ending-number}
-use Rattle.history.specs.Machine.{Limits, found, node-to-take, Operation, register, Phase, line-number, Effect, Comes, goes-on, ends-with,
+use Rattle.history.specs.Machine.{left-off, holds-node, Limits, found, node-to-take, Operation, register, Phase, line-number, Effect, Comes, goes-on, ends-with,
     answers-change, answers, line, Worker, idle, busy, Catalogue, ended, turned-away, settle, affect, tick, is-idle, begun, registered, fresh,
     Event, happens, after-events, first-phase}
 use Rattle.history.specs.Machine as Machine
@@ -249,6 +249,33 @@ module _ (s : Catalogue) (invariant : Invariant s) (run : List Note) (A : Agrees
           fate = fate-told d (Notes.answers x) _ (ended-tells x); worker = idle-told d (Notes.answers x);
           running = over-told d (Notes.answers x) (omega arith) }
 
+    -- it is abandoned
+    stopped : Ledger
+    stopped = record { fate = put (ledger run .fate) o (stops (ledger run .fate o)); current = ledger run .current }
+
+    stop-entry : (b : Bool) → ledger (Notes.abandoned w b ∷ run) ≡ stopped
+    unfolding ledger entered stopped
+    stop-entry b = ap (λ (c : ℕ). record { fate = put (ledger run .fate) c (stops (ledger run .fate c)); current = ledger run .current }) (its .0)
+
+    after-abandon : (b : Bool) → Agrees (tick (left-off s w o ph)) (Notes.abandoned w b ∷ run)
+    unfolding tick left-off stopped
+    after-abandon b = record {
+      now = ap suc (A .now);
+      fate = subst (λ (l' : Ledger). (q : ℕ) → Tells (l' .fate q) (s .fate q)) (sym (stop-entry b))
+        (λ q. put-all (λ (q : ℕ) (g : Fate). Tells g (s .fate q)) (ledger run .fate) o (stops (ledger run .fate o)) q
+          (λ z. subst (λ (q : ℕ). Tells (stops (ledger run .fate o)) (s .fate q)) (sym z) (record {
+            operation = A .fate o .operation; worker = A .fate o .worker; done = λ d. absurd (true≢false (sym d ∙ in-work w o l ph is .unset));
+            answered = λ x e. let z : _≡_ {A = ℕ} 3 1 = ap ending-tag e in absurd (omega arith);
+            refused = λ n d e. let z : _≡_ {A = ℕ} 3 2 = ap ending-tag e in absurd (omega arith) })) (λ z. A .fate q));
+      worker = subst (λ (l' : Ledger). (w' : ℕ) → InLedger l' w' (put (s .worker) w idle w')) (sym (stop-entry b))
+        (λ w'. put-all (λ (w' : ℕ) (x : Worker). InLedger stopped w' x) (s .worker) w idle w' (λ z. tt)
+          (λ z. stays stopped w' refl (s .worker w') refl (λ o' l' ph' r. put-other (ledger run .fate) o _ o' (apart w' o' l' ph' r z))));
+      running = subst (λ (l' : Ledger). (q : ℕ) → l' .fate q .ending ≡ Notes.goes-on →
+          (l'' : List ℕ) × (ph'' : Phase) × (put (s .worker) w idle (l' .fate q .worker) ≡ busy q l'' ph'')) (sym (stop-entry b))
+        (λ q. put-all (λ (q : ℕ) (g : Fate). g .ending ≡ Notes.goes-on → (l'' : List ℕ) × (ph'' : Phase) × (put (s .worker) w idle (g .worker) ≡ busy q l'' ph''))
+          (ledger run .fate) o (stops (ledger run .fate o)) q (λ z r. let y : _≡_ {A = ℕ} 3 0 = ap ending-tag r in absurd (omega arith))
+          (λ z r. still idle q z (A .running q r))) }
+
 event-agrees : (s : Catalogue) (run : List Note) → Invariant s → Agrees s run → (e : Event) → Agrees (happens s e) (event-note s e ∷ run)
 unfolding happens
 event-agrees s run invariant A =
@@ -257,7 +284,8 @@ event-agrees s run invariant A =
       (λ v z p. after-register s invariant run A v z (found (node-to-take (s .memory))))
       (λ w op b f p. after-start s invariant run A w op f)
       (λ w o l ph b e. settled s invariant run A w o l ph e (phase-deed (s .memory) ph) (line (s .now) (s .memory) ph .does)
-        (line (s .now) (s .memory) ph .comes)) (omega arith)
+        (line (s .now) (s .memory) ph .comes))
+      (λ w o l ph b e. after-abandon s invariant run A w o l ph e (holds-node ph)) (omega arith)
 
 pub agrees : (limits : Limits) (es : List Event) → Agrees (after-events limits es) (machine-notes limits es)
 unfolding after-events machine-notes fresh ledger

@@ -25,6 +25,7 @@ pub mod StepCount
 pub mod MachineNotes
 pub mod Helps
 pub mod LedgerRight
+pub mod Abandons
 pub mod Trace
 pub mod TraceStep
 pub mod TraceMemory
@@ -48,6 +49,7 @@ pub mod AnswersTold
 pub mod Refusals
 pub mod InWork
 pub mod Accepts
+pub mod AbandonTold
 pub mod NodesInUse
 pub mod Registers
 pub mod LineEnds

@@ -73,7 +73,8 @@ note-ends s invariant c w k d e =
       (λ v z p q. let z : _≡_ {A = ℕ} 1 3 = ap note-tag q in absurd (omega arith))
       (λ w' op b f p q. let z : _≡_ {A = ℕ} 2 3 = ap note-tag q in absurd (omega arith))
       (λ w' o l ph b is q. subst (λ (k : ℕ). Ends (s .memory) k e) (ap note-line q)
-        (subst (λ (e : Ending). Ends (s .memory) (line-number ph) e) (ap note-ending q) (line-ends (s .now) (s .memory) ph))) c
+        (subst (λ (e : Ending). Ends (s .memory) (line-number ph) e) (ap note-ending q) (line-ends (s .now) (s .memory) ph)))
+      (λ w' o l ph b is q. let z : _≡_ {A = ℕ} 4 3 = ap note-tag q in absurd (omega arith)) c
 
 -- ---- in every run
 

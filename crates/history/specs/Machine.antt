@@ -49,7 +49,7 @@ pub record Camera : Type 0 where
   pub left-at : ℕ → ℕ         -- the line 6 at which the counter left a number
   pub mover : ℕ → ℕ           -- the takeSnapshot that moved it
 
--- The nodes: how many were ever used, and those given back by line 50, the latest first.
+-- The nodes: how many were ever used, and those given back by line 50 or an abandon, the latest first.
 pub record Pool : Type 0 where
   pub used : ℕ
   pub given-back : List ℕ
@@ -447,6 +447,46 @@ registering s v z =
     unless s (register-refusals (s .memory) v)
       (record { answer = accepted (s .memory .items); leaves = registered s v z (found (node-to-take (s .memory))) })
 
+-- The node taken at 45 and not published, which goes back where its worker is abandoned.
+abbrev pub held-node : Phase → Found
+held-node (line-37 i) = no-node
+held-node (line-39 i f j) = no-node
+held-node (line-41 i old new) = no-node
+held-node (line-43 i old new f j) = no-node
+held-node (line-45 i old new f j) = no-node
+held-node (line-46 i old new f j y) = node y
+held-node (line-48 i old new j) = no-node
+held-node (line-50 i old new g y) = node y
+held-node (line-51 i old new g) = no-node
+held-node (line-52 i old new g j) = no-node
+held-node line-5 = no-node
+held-node (line-6 c r) = no-node
+held-node (line-32 i h) = no-node
+held-node (line-34 i h f j x) = no-node
+held-node (total-32 q h k i u) = no-node
+held-node (total-34 q h k i u f j x) = no-node
+held-node (closing q h k u) = no-node
+held-node (line-20 c j) = no-node
+held-node (line-21 c j) = no-node
+held-node (line-22 c j n r) = no-node
+
+abbrev pub give : Found → Effect
+give no-node = nothing
+give (node y) = gives-back y
+
+abbrev pub holds-node : Phase → Bool
+holds-node ph = not (none-left (held-node ph))
+
+-- worker w, in operation o at a phase, is abandoned: it is idle, and its operation is never heard of again
+unfoldable pub left-off : Catalogue → (w o : ℕ) → Phase → Catalogue
+left-off s w o ph = record { now = s .now; memory = memory-after (s .now) o (give (held-node ph)) (s .memory); worker = put (s .worker) w idle; fate = s .fate; place = s .place }
+
+unfoldable pub left : Catalogue → ℕ → Worker → Move
+left s w idle = refused s 5
+left s w (busy o l ph) = record { answer = accepted 0; leaves = left-off s w o ph }
+unfoldable pub abandoning : Catalogue → ℕ → Move
+abandoning s w = unless s (step-refusals s w) (left s w (s .worker w))
+
 -- A run has no accepted make, so a make is refused.
 unfoldable pub move : Catalogue → Call → Move
 move s (Call.make p m n q c) = refused s 1
@@ -457,6 +497,7 @@ move s (Call.take-snapshot w) = starting s w take-snapshot
 move s (Call.read-snapshot w i h) = starting s w (read-snapshot i h)
 move s (Call.total w q h) = starting s w (total q h)
 move s (Call.step w) = stepping s w
+move s (Call.abandon w) = abandoning s w
 
 -- the catalogue after a call, and its answer
 unfoldable pub call : Catalogue → Call → Catalogue

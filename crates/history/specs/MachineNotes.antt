@@ -1,4 +1,4 @@
--- The notes of a run of the machine of versions, and the four things that a call may be.
+-- The notes of a run of the machine of versions, and the five things that a call may be.
 use mathlib.Core.Path.{_≡_, refl, sym, _∙_, subst}
 use mathlib.Core.Bool.{Bool, cond, not}
 use mathlib.Core.List.{List, [], _∷_}
@@ -14,7 +14,7 @@ use Rattle.history.specs.Machine.{Memory, Limits, found, node-to-take, O
     line-37, line-39, line-41, line-43, line-45, line-46, line-48, line-50, line-51, line-52, line-5, line-6, line-32, line-34, total-32, total-34,
     closing, line-20, line-21, line-22, helped-item, line-number, Comes, goes-on, ends-with, answers-change, answers, line, Worker, idle, busy,
     Catalogue, settle, affect, Move, refused, unless, is-idle, no-worker, step-answer, worker-refusals, register-refusals, stepped, stepping, begun,
-    starting, registered, registering, move, reply, start-refusals, Event, called, reader-starts, reader-steps, reader, reader-refusals, event-move,
+    starting, registered, registering, move, reply, start-refusals, Event, called, reader-starts, reader-steps, step-refusals, holds-node, left-off, left, abandoning, reader, reader-refusals, event-move,
     after-events}
 use Rattle.history.specs.RightAnswers.{RefusedLines, no-node-left, counter-full, ComesRight}
 use Rattle.history.specs.EachLine.{every-line}
@@ -65,6 +65,29 @@ event-note s (reader-starts i) = if-accepted (event-move s (reader-starts i) .an
 event-note s reader-steps = step-note (reader s) (worker-line (s .worker (reader s))) (worker-deed (s .memory) (s .worker (reader s)))
     (event-move s reader-steps .answer)
 
+-- a phase holds a node exactly where its line says so
+holds-by-line : (ph : Phase) → Notes.holds-at (line-number ph) ≡ holds-node ph
+holds-by-line (line-37 i) = refl
+holds-by-line (line-39 i f j) = refl
+holds-by-line (line-41 i old new) = refl
+holds-by-line (line-43 i old new f j) = refl
+holds-by-line (line-45 i old new f j) = refl
+holds-by-line (line-46 i old new f j y) = refl
+holds-by-line (line-48 i old new j) = refl
+holds-by-line (line-50 i old new g y) = refl
+holds-by-line (line-51 i old new g) = refl
+holds-by-line (line-52 i old new g j) = refl
+holds-by-line line-5 = refl
+holds-by-line (line-6 c r) = refl
+holds-by-line (line-32 i h) = refl
+holds-by-line (line-34 i h f j x) = refl
+holds-by-line (total-32 q h k i u) = refl
+holds-by-line (total-34 q h k i u f j x) = refl
+holds-by-line (closing q h k u) = refl
+holds-by-line (line-20 c j) = refl
+holds-by-line (line-21 c j) = refl
+holds-by-line (line-22 c j n r) = refl
+
 -- what a quiet note tells: nothing
 abbrev pub Looked : Memory → Notes.Look → Type 0
 Looked m Notes.none = Unit {0}
@@ -79,7 +102,7 @@ ending (ends-with n) = Notes.ends-with n
 ending (answers-change x) = Notes.answers x
 ending (answers x τ j) = Notes.answers x
 
--- ---- the four things that a call may be
+-- ---- the five things that a call may be: refused, a register, a start, a step, an abandon
 
 unless-move : (P : Move → Type 0) (s : Catalogue) (rs : List Refusal) (x : Move) → ((n : ℕ) → P (refused s n)) → (Passed rs → P x) → P (unless s rs x)
 unless-move P s [] x p f = f tt
@@ -96,7 +119,8 @@ module _ (s : Catalogue) (invariant : Invariant s) (bound : ℕ) (all : s .memor
   (on-start : (w : ℕ) (op : Operation) → w < bound → T (not (not (is-idle (s .worker w)))) → Passed (start-refusals (s .memory) op) →
       P (Notes.started w op) (begun s w op))
   (on-step : (w o : ℕ) (l : List ℕ) (ph : Phase) → w < bound → s .worker w ≡ busy o l ph →
-    P (Notes.stepped w (line-number ph) (phase-deed (s .memory) ph) (ending (line (s .now) (s .memory) ph .comes))) (after-step s w o l ph)) where
+    P (Notes.stepped w (line-number ph) (phase-deed (s .memory) ph) (ending (line (s .now) (s .memory) ph .comes))) (after-step s w o l ph))
+  (on-abandon : (w o : ℕ) (l : List ℕ) (ph : Phase) → w < bound → s .worker w ≡ busy o l ph → P (Notes.abandoned w (holds-node ph)) (left-off s w o ph)) where
 
   on-refusal : P Notes.refused s
   on-refusal = on-quiet Notes.none tt
@@ -160,6 +184,20 @@ module _ (s : Catalogue) (invariant : Invariant s) (bound : ℕ) (all : s .memor
       at b idle e = on-refusal
       at b (busy o l ph) e = by-worker w (omega (arith, nleb→lt (s .memory .limits .workers) w b)) (busy o l ph) e
 
+  -- worker w is abandoned
+  abandon-case : (w : ℕ) → P (if-accepted (abandoning s w .answer) (Notes.abandoned w (Notes.holds-at (worker-line (s .worker w))))) (abandoning s w .leaves)
+  unfolding abandoning
+  abandon-case w =
+      unless-move (λ (y : Move). P (if-accepted (y .answer) (Notes.abandoned w (Notes.holds-at (worker-line (s .worker w))))) (y .leaves)) s (step-refusals s w)
+          (left s w (s .worker w))
+        (λ n. not-accepted n (Notes.abandoned w (Notes.holds-at (worker-line (s .worker w)))))
+        (λ x. at (omega (arith, nleb→lt (s .memory .limits .workers) w (x .0))) (s .worker w) refl)
+    where
+      at : w < bound → (y : Worker) → s .worker w ≡ y → P (if-accepted (left s w y .answer) (Notes.abandoned w (Notes.holds-at (worker-line y)))) (left s w y .leaves)
+      at l idle e = unfold left in on-refusal
+      at l (busy o ls ph) e = unfold left in
+          (subst (λ (b : Bool). P (Notes.abandoned w b) (left-off s w o ph)) (sym (holds-by-line ph)) (on-abandon w o ls ph l e))
+
   pub call-cases : (c : Call) → P (machine-note s c) (move s c .leaves)
   unfolding machine-note reply move
   call-cases (Call.make p m n q c) = on-refusal
@@ -170,6 +208,7 @@ module _ (s : Catalogue) (invariant : Invariant s) (bound : ℕ) (all : s .memor
   call-cases (Call.read-snapshot w i h) = start-case w (read-snapshot i h)
   call-cases (Call.total w q h) = start-case w (total q h)
   call-cases (Call.step w) = step-case w
+  call-cases (Call.abandon w) = abandon-case w
 
   -- an event, where there is room for the reader
   pub event-cases : s .memory .limits .workers < bound → (e : Event) → P (event-note s e) (event-move s e .leaves)

@@ -11,7 +11,7 @@ use Rattle.history.specs.Definition1.{Follows}
 use Rattle.history.specs.Notes.{Deed, Note, ledger}
 use Rattle.history.specs.Notes as Notes
 use Rattle.history.specs.Statements.{Executed}
-use Rattle.history.specs.Machine.{Entry, ended, turned-away, Item, Memory, Limits, found, node-to-take, Operation, take-snapshot, Phase,
+use Rattle.history.specs.Machine.{left-off, holds-node, Entry, ended, turned-away, Item, Memory, Limits, found, node-to-take, Operation, take-snapshot, Phase,
     line-number, Comes, goes-on, ends-with, answers-change, answers, line, memory-after, newborn, Worker, busy, Catalogue, settle, affect, tick,
     begun, registered, fresh, Event, happens, after-events}
 use Rattle.history.specs.Machine as Machine
@@ -23,6 +23,7 @@ use Rattle.history.specs.Places.{InOperation, WorkerRight, Invariant}
 use Rattle.history.specs.Run.{run-right}
 use Rattle.history.specs.NodeCount.{settle-memory}
 use Rattle.history.specs.OrderShown.{operation-tag}
+use Rattle.history.specs.Step.{left-alone, left-later}
 use Rattle.history.specs.MachineNotes.{event-note, machine-notes, phase-deed, ending, after-step, event-cases}
 use Rattle.history.specs.LedgerRight.{InLedger, Agrees, agrees}
 use Rattle.history.specs.Trace.{executed-more}
@@ -69,6 +70,12 @@ module _ (s : Catalogue) (invariant : Invariant s) (run : List Note) (A : Agrees
   after-quiet : (x : Notes.Look) → Moments (tick s) (Notes.quiet x ∷ run)
   unfolding tick
   after-quiet x = record { ends = λ o d. ended-more run (Notes.quiet x) o (s .fate o) (M .ends o d); births = born-more (Notes.quiet x) (s .memory) stay refl }
+
+  after-abandon : (w o : ℕ) (ph : Phase) → Moments (tick (left-off s w o ph)) (Notes.abandoned w (holds-node ph) ∷ run)
+  unfolding tick
+  after-abandon w o ph = record {
+    ends = unfold left-off in (λ q d. ended-more run (Notes.abandoned w (holds-node ph)) q (s .fate q) (M .ends q d));
+    births = born-more (Notes.abandoned w (holds-node ph)) (left-off s w o ph .memory) (left-later s invariant w o ph) (left-alone s w o ph .items) }
 
   after-start : (w : ℕ) (op : Operation) → Moments (tick (begun s w op)) (Notes.started w op ∷ run)
   unfolding tick begun
@@ -164,7 +171,8 @@ event-moments s run invariant A M =
       (λ x q. after-quiet s invariant run A M x)
       (λ v z p. after-register s invariant run A M v z (found (node-to-take (s .memory))))
       (λ w op b f p. after-start s invariant run A M w op)
-      (λ w o l ph b e. after-line s invariant run A M w o l ph e) (omega arith)
+      (λ w o l ph b e. after-line s invariant run A M w o l ph e)
+      (λ w o l ph b e. after-abandon s invariant run A M w o ph) (omega arith)
 
 pub moments : (limits : Limits) (es : List Event) → Moments (after-events limits es) (machine-notes limits es)
 unfolding after-events machine-notes fresh

@@ -16,7 +16,7 @@ use Rattle.history.specs.Machine.{Item, Memory, Limits, Found, no-node, 
     line-32, line-34, total-32, total-34, closing, line-20, line-21, line-22, after, total-at, helped-item, line-number, Effect, nothing, counts,
     publishes, stamps, takes-node, gives-back, Comes, goes-on, ends-with, answers-change, answers, Next, on-45, line, memory-after, published,
     stamped, Worker, idle, busy, Catalogue, tick, settle, affect, is-idle, newborn, step-refusals, worker-refusals, register-refusals, stepped,
-    stepping, first-phase, begun, starting, registered, registering, move, call, fresh, Event, called, reader-starts, reader-steps, reader, reader-refusals, event-move, happens, after-events}
+    stepping, first-phase, begun, starting, registered, registering, move, call, fresh, Event, called, reader-starts, reader-steps, left, abandoning, held-node, give, left-off, reader, reader-refusals, event-move, happens, after-events}
 use Rattle.history.specs.Changes.{Allowed}
 use Rattle.history.specs.PhaseFacts.{PhaseFacts}
 use Rattle.history.specs.RightAnswers.{phase-operation, has-published, LineRight}
@@ -194,6 +194,33 @@ settle-worker w o l s u w' = at u (same? w' w)
     at (answers x τ j) (eq e) = ap worker-holds (put-same (s .worker) w idle w' e) ∙ sym (put-same (λ w. worker-holds (s .worker w)) w 0 w' e)
     at (answers x τ j) (ne e) = ap worker-holds (put-other (s .worker) w idle w' e) ∙ sym (put-other (λ w. worker-holds (s .worker w)) w 0 w' e)
 
+-- what a phase holds, by its node
+abbrev pub held-count : Found → ℕ
+held-count no-node = 0
+held-count (node y) = 1
+
+pub held-is : (ph : Phase) → holds ph ≡ held-count (held-node ph)
+held-is (line-37 i) = refl
+held-is (line-39 i f j) = refl
+held-is (line-41 i old new) = refl
+held-is (line-43 i old new f j) = refl
+held-is (line-45 i old new f j) = refl
+held-is (line-46 i old new f j y) = refl
+held-is (line-48 i old new j) = refl
+held-is (line-50 i old new g y) = refl
+held-is (line-51 i old new g) = refl
+held-is (line-52 i old new g j) = refl
+held-is line-5 = refl
+held-is (line-6 c r) = refl
+held-is (line-32 i h) = refl
+held-is (line-34 i h f j x) = refl
+held-is (total-32 q h k i u) = refl
+held-is (total-34 q h k i u f j x) = refl
+held-is (closing q h k u) = refl
+held-is (line-20 c j) = refl
+held-is (line-21 c j) = refl
+held-is (line-22 c j n r) = refl
+
 module _ (s : Catalogue) (invariant : Invariant s) (Y : Tally s) where
   m : Memory
   m = s .memory
@@ -355,6 +382,34 @@ module _ (s : Catalogue) (invariant : Invariant s) (Y : Tally s) where
       not-not true t = tt
       not-not false t = t
 
+  -- a worker is abandoned
+  left-tally : (w o : ℕ) (l : List ℕ) (ph : Phase) → w < suc (s .memory .limits .workers) → s .worker w ≡ busy o l ph → Tally (tick (left-off s w o ph))
+  unfolding tick left-off
+  left-tally w o l ph b e = at (held-node ph) (held-is ph)
+    where
+      sums : sum-to (λ w'. worker-holds (put (s .worker) w idle w')) (suc (s .memory .limits .workers)) + holds ph ≡ sum-to (λ w. worker-holds (s .worker w)) (suc (s .memory .limits .workers)) + 0
+      sums =
+          subst (λ (n : ℕ). sum-to (λ w'. worker-holds (put (s .worker) w idle w')) (suc (s .memory .limits .workers)) + holds ph ≡ sum-to (λ w. worker-holds (s .worker w)) (suc (s .memory .limits .workers)) + n)
+            (ap worker-holds (put-same (s .worker) w idle w refl))
+            (subst (λ (n : ℕ). sum-to (λ w'. worker-holds (put (s .worker) w idle w')) (suc (s .memory .limits .workers)) + n ≡ sum-to (λ w. worker-holds (s .worker w)) (suc (s .memory .limits .workers))
+                + worker-holds (put (s .worker) w idle w)) (ap worker-holds e)
+              (sum-change (λ w. worker-holds (s .worker w)) (λ w'. worker-holds (put (s .worker) w idle w')) w (suc (s .memory .limits .workers)) b
+                (λ w' q. ap worker-holds (put-other (s .worker) w idle w' q))))
+      at : (g : Found) → holds ph ≡ held-count g →
+          Tally (record { now = suc (s .now); memory = memory-after (s .now) o (give g) (s .memory); worker = put (s .worker) w idle; fate = s .fate; place = s .place })
+      at no-node h = unfold memory-after in (record { count = omega (arith, Y .count, sums, h); fits = Y .fits; room = Y .room; within = Y .within })
+      at (node y) h = unfold memory-after one-returned in (record { count = omega (arith, Y .count, sums, h); fits = Y .fits; room = Y .room; within = Y .within })
+
+  abandon-tally : (w : ℕ) → Tally (tick (abandoning s w .leaves))
+  unfolding abandoning
+  abandon-tally w =
+      unless-all (λ (s : Catalogue). Tally (tick s)) s (step-refusals s w) (left s w (s .worker w)) still
+        (λ x. at (omega (arith, nleb→lt (s .memory .limits .workers) w (x .0))) (s .worker w) refl)
+    where
+      at : w < suc (s .memory .limits .workers) → (x : Worker) → s .worker w ≡ x → Tally (tick (left s w x .leaves))
+      at b idle e = unfold left in still
+      at b (busy o l ph) e = unfold left in (left-tally w o l ph b e)
+
   call-tally : (c : Call) → Tally (call s c)
   unfolding call move registering stepping
   call-tally (Call.make p m n q c) = still
@@ -369,6 +424,7 @@ module _ (s : Catalogue) (invariant : Invariant s) (Y : Tally s) where
   call-tally (Call.step w) =
       unless-all (λ (s : Catalogue). Tally (tick s)) s (step-refusals s w) (stepped s w (s .worker w)) still
         (λ x. step-tally w (s .worker w) refl (omega (arith, nleb→lt (s .memory .limits .workers) w (x .0))) (invariant .workers w))
+  call-tally (Call.abandon w) = abandon-tally w
 
   event-tally : (e : Event) → Tally (happens s e)
   unfolding happens event-move
@@ -417,6 +473,12 @@ call-limits s (Call.total w q h) = unless-all (λ (s' : Catalogue). s' .memory .
     (record { answer = accepted 0; leaves = begun s w (total q h) }) refl (λ x. refl)
 call-limits s (Call.step w) = unless-all (λ (s' : Catalogue). s' .memory .limits ≡ s .memory .limits) s (step-refusals s w)
     (stepped s w (s .worker w)) refl (λ x. step-limits s w (s .worker w))
+call-limits s (Call.abandon w) = unfold abandoning in (unless-all (λ (s' : Catalogue). s' .memory .limits ≡ s .memory .limits) s (step-refusals s w)
+    (left s w (s .worker w)) refl (λ x. at (s .worker w)))
+  where
+    at : (x : Worker) → left s w x .leaves .memory .limits ≡ s .memory .limits
+    at idle = unfold left in refl
+    at (busy o l ph) = unfold left left-off in (same-limits (s .now) o (s .memory) (give (held-node ph)))
 
 event-limits : (s : Catalogue) (e : Event) → happens s e .memory .limits ≡ s .memory .limits
 unfolding happens event-move tick begun

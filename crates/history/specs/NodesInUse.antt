@@ -1,7 +1,7 @@
 -- The nodes in use, counted from the notes, are those ever used but for those given back: so a node is left exactly when they are not all N.
 use mathlib.Core.Path.{_≡_, refl, ap, sym, subst}
 use mathlib.Core.Logic.{_↔_}
-use mathlib.Core.Bool.{not}
+use mathlib.Core.Bool.{not, cond}
 use mathlib.Core.List.{List, [], _∷_}
 use Prim.Native.Nat.{ℕ, suc, pred, _+_, _≤_, _<_}
 use native.Mathlib.Omega.{arith}
@@ -10,13 +10,13 @@ use lib.ListN.{length}
 use Rattle.history.specs.Tools.{by-eq, by-lt, by-le}
 use Rattle.history.specs.Notes.{Deed, Note, nodes-in-use}
 use Rattle.history.specs.Notes as Notes
-use Rattle.history.specs.Machine.{Memory, Limits, Found, no-node, node, first-free, node-to-take, found, one-taken,
+use Rattle.history.specs.Machine.{left-off, holds-node, held-node, give, Memory, Limits, Found, no-node, node, first-free, node-to-take, found, one-taken,
     one-returned, Phase, line-37, line-39, line-41, line-43, line-45, line-46, line-48, line-50, line-51, line-52, line-5, line-6, line-32, line-34,
     total-32, total-34, closing, line-20, line-21, line-22, helped-item, line-number, Effect, Next, on-45, line, memory-after, busy,
     Catalogue, affect, tick, begun, registered, register-refusals, none-left, fresh, Event, happens, after-events}
 use Rattle.history.specs.Places.{Invariant}
 use Rattle.history.specs.Run.{Passed, run-right}
-use Rattle.history.specs.NodeCount.{sum-to, sum-rises, holds, worker-holds, settle-memory, Tally, taken-count, tally}
+use Rattle.history.specs.NodeCount.{held-count, held-is, sum-to, sum-rises, holds, worker-holds, settle-memory, Tally, taken-count, tally}
 use Rattle.history.specs.MachineNotes.{event-note, machine-notes, phase-deed, ending, after-step, event-cases}
 
 -- ---- one more note
@@ -102,11 +102,22 @@ module _ (s : Catalogue) (invariant : Invariant s) (Y : Tally s) (run : List Not
         (sym (settle-memory w o (line-number ph ∷ l) (affect o s (line (s .now) (s .memory) ph .does)) (line (s .now) (s .memory) ph .comes)))
         (line-counts (s .now) o w (s .memory) run (Y .fits) C ph (phase-deed (s .memory) ph) (held w o l ph b e))
 
+  after-abandon : (w o : ℕ) (l : List ℕ) (ph : Phase) → w < suc (s .memory .limits .workers) → s .worker w ≡ busy o l ph →
+      InUse (left-off s w o ph) (Notes.abandoned w (holds-node ph) ∷ run)
+  unfolding left-off nodes-in-use
+  after-abandon w o l ph b e = at (held-node ph) (held-is ph)
+    where
+      fewer : 0 < nodes-in-use run → pred (nodes-in-use run) + suc (length (s .memory .pool .given-back)) ≡ s .memory .pool .used
+      fewer p = omega (arith, C)
+      at : (g : Found) → holds ph ≡ held-count g → Counted (memory-after (s .now) o (give g) (s .memory)) (cond (not (none-left g)) (pred (nodes-in-use run)) (nodes-in-use run))
+      at no-node h = unfold memory-after in C
+      at (node y) h = unfold memory-after one-returned in (fewer (held w o l ph b e h))
+
   event-counts : (e : Event) → InUse (happens s e) (event-note s e ∷ run)
   unfolding happens tick
   event-counts =
       event-cases s invariant (suc (s .memory .limits .workers)) (omega arith) (λ (x : Note) (s' : Catalogue). InUse (tick s') (x ∷ run))
-        (λ x q. unfold nodes-in-use in C) after-register (λ w op b f p. unfold nodes-in-use begun in C) after-line (omega arith)
+        (λ x q. unfold nodes-in-use in C) after-register (λ w op b f p. unfold nodes-in-use begun in C) after-line after-abandon (omega arith)
 
 pub in-use : (limits : Limits) (es : List Event) → Counted (after-events limits es .memory) (nodes-in-use (machine-notes limits es))
 unfolding after-events machine-notes fresh nodes-in-use

@@ -31,39 +31,46 @@ abbrev pub ending-tag : Ending → ℕ
 ending-tag Notes.goes-on = 0
 ending-tag (Notes.answers x) = 1
 ending-tag (Notes.ends-with n) = 2
+ending-tag Notes.given-up = 3
 
 -- the answer, or the number of refusal
 abbrev pub ending-number : Ending → ℕ
 ending-number Notes.goes-on = 0
 ending-number (Notes.answers x) = x
 ending-number (Notes.ends-with n) = n
+ending-number Notes.given-up = 0
 
 abbrev pub note-tag : Note → ℕ
 note-tag (Notes.quiet x) = 0
 note-tag (Notes.registered i v s) = 1
 note-tag (Notes.started w op) = 2
 note-tag (Notes.stepped w k d e) = 3
+note-tag (Notes.abandoned w b) = 4
 
 abbrev pub note-worker : Note → ℕ
 note-worker (Notes.quiet x) = 0
 note-worker (Notes.registered i v s) = 0
 note-worker (Notes.started w op) = 0
 note-worker (Notes.stepped w k d e) = w
+note-worker (Notes.abandoned w b) = w
 
 abbrev pub note-line : Note → ℕ
 note-line (Notes.quiet x) = 0
 note-line (Notes.registered i v s) = 0
 note-line (Notes.started w op) = 0
 note-line (Notes.stepped w k d e) = k
+note-line (Notes.abandoned w b) = 0
 
 abbrev pub note-deed : Note → Deed
 note-deed (Notes.quiet x) = Notes.nothing
 note-deed (Notes.registered i v s) = Notes.nothing
 note-deed (Notes.started w op) = Notes.nothing
 note-deed (Notes.stepped w k d e) = d
+note-deed (Notes.abandoned w b) = Notes.nothing
 
 abbrev pub note-ending : Note → Ending
 note-ending (Notes.quiet x) = Notes.goes-on
 note-ending (Notes.registered i v s) = Notes.goes-on
 note-ending (Notes.started w op) = Notes.goes-on
 note-ending (Notes.stepped w k d e) = e
+note-ending (Notes.abandoned w b) = Notes.goes-on

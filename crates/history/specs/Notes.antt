@@ -3,7 +3,7 @@
 use mathlib.Core.Path.{_≡_}
 use mathlib.Core.Logic.{_≢_}
 use Prim.Native.Nat.{ℕ, suc, pred, _+_, _<_}
-use mathlib.Core.Bool.{Bool, true, false, cond, not, _&&_}
+use mathlib.Core.Bool.{Bool, true, false, cond, not, _||_, _&&_}
 use mathlib.Core.List.{List, [], _∷_, _++_}
 use lib.Dec.{ltb, leb, eqb}
 use lib.ListN.{length, replicate}
@@ -24,11 +24,12 @@ pub data Deed : Type 0 where
   moves : (h : ℕ) → Deed                      -- line 6, where it succeeds: the counter leaves h
   nothing : Deed
 
--- how a step left its operation: running, with an answer, or ended with number 11 or 12
+-- what became of an operation: a step left it running, with an answer, or ended with number 11 or 12; or its worker was abandoned, which no step does
 pub data Ending : Type 0 where
   goes-on : Ending
   answers : (x : ℕ) → Ending
   ends-with : (number : ℕ) → Ending
+  given-up : Ending
 
 -- what a call that changed nothing looked at
 pub data Look : Type 0 where
@@ -40,6 +41,7 @@ pub data Note : Type 0 where
   registered : (i v s : ℕ) → Note
   started : (w : ℕ) → Operation → Note
   stepped : (w line : ℕ) → Deed → Ending → Note       -- worker w executed a line
+  abandoned : (w : ℕ) (held : Bool) → Note            -- worker w was abandoned, and held a node that was not published, or none
 
 -- a call was refused
 abbrev pub refused : Note
@@ -65,6 +67,10 @@ step-note w line d a =
     (cond (eqb (a .code) 27) (stepped w line d (ends-with 11))
     (cond (eqb (a .code) 28) (stepped w line d (ends-with 12)) refused)))
 
+-- a worker that took a node at line 45 and has not published it stands at 46 or 50
+abbrev pub holds-at : (line : ℕ) → Bool
+holds-at line = eqb line 46 || eqb line 50
+
 -- what an accepted call is noted as
 abbrev pub if-accepted : Answer → Note → Note
 if-accepted a x = cond (eqb (a .code) 2) x refused
@@ -79,6 +85,7 @@ note-of (Call.take-snapshot w) a line deed = if-accepted a (started w take-snaps
 note-of (Call.read-snapshot w i h) a line deed = if-accepted a (started w (read-snapshot i h))
 note-of (Call.total w q h) a line deed = if-accepted a (started w (total q h))
 note-of (Call.step w) a line deed = step-note w (line w) (deed w) a
+note-of (Call.abandon w) a line deed = if-accepted a (abandoned w (holds-at (line w)))
 
 -- the call that starts an operation of worker w; a register is whole in its call
 abbrev pub start-of : (w : ℕ) → Operation → Call
@@ -151,8 +158,8 @@ pub record Fate : Type 0 where
   pub operation : Operation
   pub worker : ℕ
   pub lines : List ℕ       -- the lines that it has executed, the newest first
-  pub ending : Ending      -- how its latest note left it
-  pub at : ℕ               -- and when that was
+  pub ending : Ending      -- how its latest line left it, or that its worker was abandoned
+  pub at : ℕ               -- when it began, or executed its latest line
 
 pub record Ledger : Type 0 where
   pub fate : ℕ → Fate      -- of each operation
@@ -164,6 +171,10 @@ begins op w e t = record { operation = op; worker = w; lines = []; ending = e; a
 abbrev pub continues : Fate → (line : ℕ) → Ending → (t : ℕ) → Fate
 continues f line e t = record { operation = f .operation; worker = f .worker; lines = line ∷ f .lines; ending = e; at = t }
 
+-- an operation whose worker is abandoned; its lines, and when it executed the latest, stay
+abbrev pub stops : Fate → Fate
+stops f = record { operation = f .operation; worker = f .worker; lines = f .lines; ending = given-up; at = f .at }
+
 -- the entry of a note at t
 unfoldable pub entered : ℕ → Note → Ledger → Ledger
 entered t (quiet x) l = l
@@ -171,13 +182,14 @@ entered t (registered i v s) l = record { fate = put (l .fate) t (begins (regist
 entered t (started w op) l = record { fate = put (l .fate) t (begins op w goes-on t); current = put (l .current) w t }
 entered t (stepped w line d e) l =
     record { fate = put (l .fate) (l .current w) (continues (l .fate (l .current w)) line e t); current = l .current }
+entered t (abandoned w held) l = record { fate = put (l .fate) (l .current w) (stops (l .fate (l .current w))); current = l .current }
 
 -- where no operation was started, an ending stands that none has
 unfoldable pub ledger : List Note → Ledger
 ledger [] = record { fate = λ o. begins take-snapshot 0 (ends-with 0) 0; current = λ w. 0 }
 ledger (x ∷ past) = entered (length past) x (ledger past)
 
--- how many nodes are in use: a register takes one, a line 45 that goes on takes one, a line 50 gives one back
+-- how many nodes are in use: a register takes one, a line 45 that goes on takes one, a line 50 gives one back, and so does an abandoned worker who holds one
 unfoldable pub nodes-in-use : List Note → ℕ
 nodes-in-use [] = 0
 nodes-in-use (quiet x ∷ past) = nodes-in-use past
@@ -186,6 +198,8 @@ nodes-in-use (started w op ∷ past) = nodes-in-use past
 nodes-in-use (stepped w line d goes-on ∷ past) = let n = nodes-in-use past in cond (eqb line 45) (suc n) (cond (eqb line 50) (pred n) n)
 nodes-in-use (stepped w line d (answers x) ∷ past) = nodes-in-use past
 nodes-in-use (stepped w line d (ends-with number) ∷ past) = nodes-in-use past
+nodes-in-use (stepped w line d given-up ∷ past) = nodes-in-use past
+nodes-in-use (abandoned w held ∷ past) = cond held (pred (nodes-in-use past)) (nodes-in-use past)
 
 -- ---- the lines of an operation, the newest first
 

@@ -10,13 +10,13 @@ use Rattle.history.specs.Tools.{Split, split, Same, eq, ne, same?}
 use Rattle.history.specs.Definition1.{Operation, register, v-read, v-cas, take-snapshot, read-snapshot, total, Act, Legal}
 use Rattle.history.specs.Notes.{Note, ledger, snapshot}
 use Rattle.history.specs.Notes as Notes
-use Rattle.history.specs.Statements.{Executed, Moved, ChangeInstant, LossInstant, TakeInstant, CasInstant, Instant}
+use Rattle.history.specs.Statements.{Executed, Abandoned, Moved, FirstStamp, ChangeInstant, LossInstant, TakeInstant, CasInstant, Instant}
 use Rattle.history.specs.Statements as Told
-use Rattle.history.specs.Machine.{Event, Limits, Place, Catalogue, after-events}
+use Rattle.history.specs.Machine.{Event, Limits, Memory, Place, Catalogue, after-events}
 use Rattle.history.specs.Places.{asked-for, PlaceRight, Invariant}
 use Rattle.history.specs.Facts.{CounterWas}
 use Rattle.history.specs.Run.{run-right}
-use Rattle.history.specs.Instants.{stamped-before, head-instant, change-instant, loss-instant}
+use Rattle.history.specs.Instants.{stamped-before, head-instant, change-stamped, change-instant, loss-instant}
 use Rattle.history.specs.Moments.{Moments, moments}
 use Rattle.history.specs.Immediately.{same-event, right-after}
 use Rattle.history.specs.MachineOrder.{time-of, Pending, Within, inside, in-call}
@@ -24,6 +24,8 @@ use Rattle.history.specs.OrderShown.{operation-tag}
 use Rattle.history.specs.OrderList.{order-to}
 use Rattle.history.specs.Order.{has-one-order, order-is}
 use Rattle.history.specs.MachineNotes.{machine-notes}
+use Rattle.history.specs.NoteParts.{ending-tag}
+use Rattle.history.specs.Abandons.{stays-given-up}
 use Rattle.history.specs.LedgerRight.{is-answer, unanswered, Agrees, agrees}
 use Rattle.history.specs.Trace.{CasTraced, EndTraced, Traced}
 use Rattle.history.specs.Trace as Trace
@@ -32,6 +34,13 @@ use Rattle.history.specs.EffectsRight.{left-then}
 use Rattle.history.specs.EffectLaws.{snapshot-among}
 use Rattle.history.specs.EffectsRun.{Effected, effected}
 use Rattle.history.specs.TraceRun.{done-past, traced}
+
+-- a version with its stamp, of which o is the author, and which was published at p
+record VersionOf (m : Memory) (o i p : ℕ) : Type 0 where
+  j : ℕ
+  stamped : suc j < m .item i .valid
+  mine : o ≡ m .item i .author (suc j)
+  published : p ≡ m .item i .published-at (suc j)
 
 module _ (s : Catalogue) (invariant : Invariant s) (run : List Note) (T : Traced s run) (E : Effected s run) where
   -- when the counter left x, which line 5 of operation o read at f
@@ -101,10 +110,9 @@ module _ (s : Catalogue) (invariant : Invariant s) (run : List Note) (T : Traced
               (subst (λ (o : ℕ). ChangeInstant run o (P .i) (s .memory .item (P .i) .effect-at (suc j))) (ap (s .memory .item (P .i) .author) (sym e)
                   ∙ P .mine) (change-instant s invariant run T (P .i) j (omega (arith, P .valid)))))
 
-  -- a change that the run tells of is a version with its stamp, whose author stands in the order
-  effective : (o i τ : ℕ) → ChangeInstant run o i τ → Told.In o (has-one-order s invariant .order)
-  effective o i τ C =
-      subst (λ (q : ℕ). Told.In q (has-one-order s invariant .order)) (sym mine) (has-one-order s invariant .changed i (suc (P .0)) (stamped (split (suc (P .0)) (s .memory .item i .valid))))
+  -- a change that the run tells of is a version with its stamp
+  version-of : (o i τ : ℕ) (C : ChangeInstant run o i τ) → VersionOf (s .memory) o i (C .1)
+  version-of o i τ C = record { j = P .0; stamped = stamped (split (suc (P .0)) (s .memory .item i .valid)); mine = mine; published = P .2 }
     where
       P : (j : ℕ) × (suc j < s .memory .item i .versions) × (C .1 ≡ s .memory .item i .published-at (suc j))
       P = T .memory .publishes-only o i (C .0) (C .1) (C .3)
@@ -120,13 +128,46 @@ module _ (s : Catalogue) (invariant : Invariant s) (run : List Note) (T : Traced
           absurd (omega (arith, stamped-before (invariant .kept .memory) i (suc (Q .0)) (suc (P .0)) (omega (arith, Q .1)) (P .1), P .2, Q .2,
               C .4 .2 .0))
 
-  told : Agrees s run → Moments s run → Told.OneOrder run
-  told A M =
+  -- whose author stands in the order
+  effective : (o i τ : ℕ) → ChangeInstant run o i τ → Told.In o (has-one-order s invariant .order)
+  effective o i τ C =
+      subst (λ (q : ℕ). Told.In q (has-one-order s invariant .order)) (sym (X .mine)) (has-one-order s invariant .changed i (suc (X .j)) (X .stamped))
+    where
+      X : VersionOf (s .memory) o i (C .1)
+      X = version-of o i τ C
+
+  -- the first stamp after a publication is one line 22, with one line 21
+  stamp-once : (i p r s' r' s'' : ℕ) → FirstStamp run i p r s' → FirstStamp run i p r' s'' → r ≡ r'
+  stamp-once i p r s' r' s'' (q, stamp, next, read, steps) (q', stamp', next', read', steps') = at (split r r') (split r' r)
+    where
+      same-time : s'' ≡ s'
+      same-time = omega (arith, next .1 s'' (q', stamp') (next' .0), next' .1 s' (q, stamp) (next .0))
+      same : q ≡ q'
+      same = same-event run stamp (subst (λ (t : ℕ). Executed run q' 22 (Notes.stamps i) t) same-time stamp') .2
+      at : Split r r' → Split r' r → r ≡ r'
+      at (Split.less l) z = absurd (omega (arith, steps .1 r' (21, Notes.nothing, subst (λ (o : ℕ). Executed run o 21 Notes.nothing r') (sym same) read') l, steps' .0, same-time))
+      at (Split.more l) (Split.less k) = absurd (omega (arith, steps' .1 r (21, Notes.nothing, subst (λ (o : ℕ). Executed run o 21 Notes.nothing r) same read) k, steps .0, same-time))
+      at (Split.more l) (Split.more k) = omega (arith, l, k)
+
+  -- a change that has taken effect stands at its instant
+  changed : (o i τ : ℕ) → ChangeInstant run o i τ → has-one-order s invariant .time o ≡ τ
+  changed o i τ C =
+      has-one-order s invariant .placed o
+        ∙ ap (time-of (s .memory)) (ap (s .place) (X .mine) ∙ invariant .kept .versions-right i (suc (X .j)) (omega (arith, X .stamped, invariant .kept .memory .item i .valid-published)) .valid (X .stamped))
+        ∙ stamp-once i (C .1) _ _ _ _ (subst (λ (p : ℕ). FirstStamp run i p (s .memory .item i .effect-at (suc (X .j))) (s .memory .item i .stamped-at (suc (X .j)))) (sym (X .published))
+            (change-stamped s invariant run T i (X .j) (X .stamped))) (C .4)
+    where
+      X : VersionOf (s .memory) o i (C .1)
+      X = version-of o i τ C
+
+  told : Agrees s run → Moments s run → ((o t : ℕ) → Abandoned run o t → ledger run .fate o .ending ≡ Notes.given-up) → Told.OneOrder run
+  told A M G =
       record {
         order = has-one-order s invariant .order; time = has-one-order s invariant .time; answer = has-one-order s invariant .answer;
             once = has-one-order s invariant .once; falling = has-one-order s invariant .falling;
         all = λ o x e. has-one-order s invariant .all o (done-past s invariant o (A .fate o .answered x e)) (A .fate o .answered x e);
-        effective = effective;
+        effective = effective; changed = changed;
+        left-off = λ o t a. left o (G o t a);
         only = λ o i. only o i (has-one-order s invariant .only o i);
         within = λ o i. within o (has-one-order s invariant .within o i);
         instants = instant;
@@ -145,6 +186,25 @@ module _ (s : Catalogue) (invariant : Invariant s) (run : List Note) (T : Traced
           (sym (A .fate o .done (A .fate o .answered x e) .2))
           (b (A .fate o .answered x e)))
       within o (in-call i v z d a b c) = inr (i, v, z, A .fate o .operation ∙ a, b, A .fate o .done d .2 ∙ c)
+      -- an operation that is given up
+      left : (o : ℕ) → ledger run .fate o .ending ≡ Notes.given-up →
+          Told.LeftOff run o (has-one-order s invariant .order) (has-one-order s invariant .time) (has-one-order s invariant .answer)
+      left o g = record {
+        ending = g;
+        effect = λ i τ C. let n = effective o i τ C in let m = stands n (only o n (has-one-order s invariant .only o n)) in (n, changed o i τ C, omega (arith, changed o i τ C, m .2), m .1);
+        else-nowhere = λ n. stands n (only o n (has-one-order s invariant .only o n)) .0 }
+        where
+          unanswered-here : (x : ℕ) → Told.Finished run o x → ⊥
+          unanswered-here x e = let z : _≡_ {A = ℕ} 3 1 = ap ending-tag (sym g ∙ e) in omega arith
+          stands : Told.In o (has-one-order s invariant .order) → Told.Finished run o (has-one-order s invariant .answer o)
+              ⊎ (Told.Pending run o (has-one-order s invariant .time o) × (has-one-order s invariant .answer o ≡ 1)) →
+            ((i : ℕ) × ChangeInstant run o i (has-one-order s invariant .time o)) × (has-one-order s invariant .answer o ≡ 1) × (o < has-one-order s invariant .time o)
+          stands n (inl f) = absurd (unanswered-here _ f)
+          stands n (inr (p, x)) = ((p .1, p .5), x, after (within o (has-one-order s invariant .within o n)))
+            where
+              after : Told.Within run o (has-one-order s invariant .time o) → o < has-one-order s invariant .time o
+              after (inl a) = a .0
+              after (inr (i, v, z, is, b, c)) = absurd (let y : _≡_ {A = ℕ} 0 2 = ap operation-tag (sym (sym (p .4) ∙ is)) in omega arith)
       instant : (o x : ℕ) → Told.Finished run o x → Instant run o x (ledger run .fate o .operation) (has-one-order s invariant .time o)
       instant o x e = subst (λ (x : ℕ). Instant run o x (ledger run .fate o .operation) (has-one-order s invariant .time o))
           (is-answer (A .fate o) x e)
@@ -160,7 +220,7 @@ module _ (s : Catalogue) (invariant : Invariant s) (run : List Note) (T : Traced
 -- demand 2, for the notes of every run of the machine
 pub notes-order : (limits : Limits) (es : List Event) → Told.OneOrder (machine-notes limits es)
 notes-order limits es = told (after-events limits es) (run-right limits es) (machine-notes limits es) (traced limits es) (effected limits es) (agrees limits es)
-    (moments limits es)
+    (moments limits es) (stays-given-up limits es)
 
 pub notes-order-is : (limits : Limits) (es : List Event) → notes-order limits es .order ≡ order-to (after-events limits es .memory)
     (after-events limits es .place) (after-events limits es .now) (2 * after-events limits es .now)

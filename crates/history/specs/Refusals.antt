@@ -18,7 +18,7 @@ use Rattle.history.specs.Demands.{Given, Least, object-now, items-now, A
 use Rattle.history.specs.Effects.{effects}
 use Rattle.history.specs.Machine.{Limits, none-left, node-to-take, found, Operation, v-read, v-cas, take-snapshot, read-snapshot, total, Comes, goes-on,
     ends-with, answers-change, answers, line-number, line, Worker, idle, busy, Catalogue, Move, refused, is-idle, no-worker, no-project, not-registered,
-    no-handle, step-answer, stepped, stepping, begun, starting, registered, registering, move, reply, Event, after-events}
+    no-handle, step-answer, stepped, stepping, left, abandoning, begun, starting, registered, registering, move, reply, Event, after-events}
 use Rattle.history.specs.Places.{Invariant}
 use Rattle.history.specs.Run.{run-right}
 use Rattle.history.specs.NodeCount.{Tally, tally, limits-kept}
@@ -107,7 +107,7 @@ module _ (s : Catalogue) (invariant : Invariant s) (run : List Note) (A : Agrees
   abbrev BornLater : (i h : ℕ) → Type 0
   BornLater i h = (left : ℕ) × In (snapshot left h) (effects run) × (Born i (object-at left (effects run)) → ⊥)
 
-  at-work : (w : ℕ) → T (not (is-idle (s .worker w))) ↔ (Free run w → ⊥)
+  pub at-work : (w : ℕ) → T (not (is-idle (s .worker w))) ↔ (Free run w → ⊥)
   at-work w = opposite (not (is-idle (s .worker w))) (idle-free s invariant run A E w, free-idle s invariant run A E w)
 
   idles : (w : ℕ) → T (is-idle (s .worker w)) ↔ Free run w
@@ -194,8 +194,13 @@ module _ (s : Catalogue) (invariant : Invariant s) (run : List Note) (A : Agrees
     steps w idle t k = absurd t
     steps w (busy o l ph) t k = counted (line-number ph) l (line (s .now) (s .memory) ph .comes) k
 
+    leaves : (w : ℕ) (x : Worker) → T (not (is-idle x)) → (k : ℕ) → left s w x .answer ≢ refusal k 0
+    unfolding left
+    leaves w idle t k = absurd t
+    leaves w (busy o l ph) t k = not-refused 0 k
+
     exactly : (x : Call) → Exactly (move s x) (Applies run (effects run) p m n q x)
-    unfolding move starting registering stepping
+    unfolding move starting registering stepping abandoning
     exactly (Call.make a b c d e) =
         λ k. (λ z. (sym (same-number 1 k z), λ j g. omega (arith, g, same-number 1 k z)), λ l. ap (λ (i : ℕ). refusal i 0) (sym (l .0)))
     exactly (Call.register v z) =
@@ -233,6 +238,9 @@ module _ (s : Catalogue) (invariant : Invariant s) (run : List Note) (A : Agrees
     exactly (Call.step w) =
         before s 3 (no-worker s w) (p ≤ w) (at-least p w) _ (Given 5 (Free run w)) (above-one 3 5 _ (omega arith))
           (λ t. last s 5 (is-idle (s .worker w)) (Free run w) (idles w) (stepped s w (s .worker w)) (steps w (s .worker w)))
+    exactly (Call.abandon w) =
+        before s 3 (no-worker s w) (p ≤ w) (at-least p w) _ (Given 5 (Free run w)) (above-one 3 5 _ (omega arith))
+          (λ t. last s 5 (is-idle (s .worker w)) (Free run w) (idles w) (left s w (s .worker w)) (leaves w (s .worker w)))
 
 -- in every run of the machine
 pub refuses : (limits : Limits) (es : List Event) (x : Call) (k : ℕ) → (reply (after-events limits es) x ≡ refusal k 0)

@@ -10,15 +10,15 @@ use Rattle.definitions.specs.Calls.{Call}
 use Rattle.history.specs.Tools.{put, put-all, put-both, put-same, put-other, by-eq, by-test}
 use Rattle.history.specs.Machine.{Item, Memory, Limits, Operation, register, v-read, v-cas, take-snapshot, read-snapshot, total, Phase,
     total-at, found, node-to-take, one-taken, nothing, memory-after, place-after, newborn, Place, unplaced, changes, Entry, Worker, idle, busy,
-    Catalogue, tick, Move, unless, step-refusals, worker-refusals, register-refusals, stepped, stepping, first-phase, start-refusals, begun,
-    starting, registered, registering, move, call, Event, called, reader-starts, reader-steps, reader, reader-refusals, event-move, happens, fresh, after-events}
+    Catalogue, tick, Move, unless, worker-refusals, register-refusals, stepped, stepping, first-phase, start-refusals, begun,
+    starting, registered, registering, move, call, Event, called, reader-starts, reader-steps, left, abandoning, step-refusals, reader, reader-refusals, event-move, happens, fresh, after-events}
 use Rattle.history.specs.Facts.{empty, ItemFacts, MemoryFacts, LaterItem, Later}
 use Rattle.history.specs.Changes.{effect-later, camera-stays, item-same, item-stays, newborn-facts, newborn-later}
 use Rattle.history.specs.PhaseFacts.{Totals, PhaseFacts, phase-later}
 use Rattle.history.specs.RightAnswers.{phase-operation, FateLines}
 use Rattle.history.specs.Places.{VersionRight, PlaceRight, Kept, WorkerRight, Invariant, place-later, version-later, kept-by-effect,
     kept-in-table, moved-later}
-use Rattle.history.specs.Step.{unchanged, step-keeps}
+use Rattle.history.specs.Step.{unchanged, step-keeps, left-off-keeps}
 
 -- ---- refusals
 
@@ -221,6 +221,15 @@ start-keeps s invariant w op =
         (unchanged s invariant)
       (λ x. begun-keeps s invariant w op (x .1 .1))
 
+abandon-keeps : (s : Catalogue) → Invariant s → (w : ℕ) → Invariant (tick (abandoning s w .leaves))
+unfolding abandoning
+abandon-keeps s invariant w =
+    unless-all (λ (s : Catalogue). Invariant (tick s)) s (step-refusals s w) (left s w (s .worker w)) (unchanged s invariant) (λ x. at (s .worker w))
+  where
+    at : (x : Worker) → Invariant (tick (left s w x .leaves))
+    at idle = unfold left in (unchanged s invariant)
+    at (busy o l ph) = unfold left in (left-off-keeps s invariant w o ph)
+
 pub call-keeps : (s : Catalogue) (c : Call) → Invariant s → Invariant (call s c)
 unfolding call move registering stepping
 call-keeps s (Call.make p m n q c) invariant = unchanged s invariant
@@ -236,6 +245,7 @@ call-keeps s (Call.total w q h) invariant = start-keeps s invariant w (total q h
 call-keeps s (Call.step w) invariant =
     unless-all (λ (s : Catalogue). Invariant (tick s)) s (step-refusals s w) (stepped s w (s .worker w)) (unchanged s invariant)
         (λ x. step-keeps s w (s .worker w) invariant (invariant .workers w))
+call-keeps s (Call.abandon w) invariant = abandon-keeps s invariant w
 
 pub event-keeps : (s : Catalogue) (e : Event) → Invariant s → Invariant (happens s e)
 unfolding happens event-move

@@ -10,8 +10,8 @@ use lib.ListN.{length, getD}
 pub use Rattle.history.specs.Definition1.{In, Once}
 use Rattle.history.specs.Definition1.{Operation, register, v-read, v-cas, take-snapshot, read-snapshot, total, total-of, Born, Follows,
     Legal}
-use Rattle.history.specs.Notes.{Deed, fetches, finds, publishes, stamps, moves, nothing, Ending, goes-on, answers, ends-with, Note, registered,
-    stepped, Fate, ledger, read-lines, WholeLines, RefusedLines, most-steps, Effect, birth, change, snapshot, time, object-at, changes-between}
+use Rattle.history.specs.Notes.{Deed, fetches, finds, publishes, stamps, moves, nothing, Ending, goes-on, answers, ends-with, given-up, Note, registered,
+    stepped, abandoned, Fate, ledger, read-lines, WholeLines, RefusedLines, most-steps, Effect, birth, change, snapshot, time, object-at, changes-between}
 
 -- ---- times
 
@@ -41,6 +41,15 @@ module _ (run : List Note) where
     pub w : ℕ
     pub e : Ending
     pub noted : Follows (stepped w line d e) past run
+    pub its : ledger past .current w ≡ o
+    pub at : length past ≡ t
+
+  -- operation o was abandoned at time t
+  pub record Abandoned (o t : ℕ) : Type 0 where
+    pub past : List Note
+    pub w : ℕ
+    pub held : Bool
+    pub noted : Follows (abandoned w held) past run
     pub its : ledger past .current w ≡ o
     pub at : length past ≡ t
 
@@ -101,7 +110,7 @@ module _ (run : List Note) where
 
   -- ---- one order
 
-  -- a vCAS that has not answered, and whose node has its stamp
+  -- a vCAS that has not answered, be it running or abandoned, and whose node has its stamp
   abbrev pub Pending : (o τ : ℕ) → Type 0
   Pending o τ = ((x : ℕ) → Finished o x → ⊥) × (i : ℕ) × (old : ℕ) × (new : ℕ) × (fate-of o .operation ≡ v-cas i old new) × ChangeInstant o i τ
 
@@ -115,6 +124,12 @@ module _ (run : List Note) where
   Immediately o i order =
       (c : ℕ) × LostTo o i c × (newer : List ℕ) × (between : List ℕ) × (older : List ℕ) × (order ≡ newer ++ (o ∷ (between ++ (c ∷ older))))
         × ((q : ℕ) → In q between → LostTo q i c)
+
+  -- What an abandoned operation came to, in an order with times and answers.
+  pub record LeftOff (o : ℕ) (order : List ℕ) (time answer : ℕ → ℕ) : Type 0 where
+    pub ending : fate-of o .ending ≡ given-up
+    pub effect : (i τ : ℕ) → ChangeInstant o i τ → In o order × (time o ≡ τ) × (o < τ) × (answer o ≡ 1)
+    pub else-nowhere : In o order → (i : ℕ) × ChangeInstant o i (time o)
 
   -- Demand 2. The order lists operations, the newest first; each has its time and its answer.
   pub record OneOrder : Type 0 where
@@ -130,7 +145,12 @@ module _ (run : List Note) where
     pub within : (o : ℕ) → In o order → Within o (time o)
     pub falling : Falling time order
     pub instants : (o x : ℕ) → Finished o x → Instant o x (fate-of o .operation) (time o)
+    -- a change that has taken effect stands at the line 21 whose line 22 stamped its node
+    pub changed : (o i τ : ℕ) → ChangeInstant o i τ → time o ≡ τ
     pub immediately : (o x i old new : ℕ) → fate-of o .operation ≡ v-cas i old new → Finished o x → last-line o ≡ 52 → Immediately o i order
+    -- an abandoned operation never answers, and takes effect at one moment after its start, or never: a vCAS whose node is stamped, before it was
+    -- abandoned or after, stands in the order, at the line 21 whose line 22 stamped it, answered 1; any other stands nowhere
+    pub left-off : (o t : ℕ) → Abandoned o t → LeftOff o order time answer
     -- and each answer is right by Definition 1
     pub legal : Legal (map (λ o. record { operation = fate-of o .operation; answer = answer o }) order)
 

@@ -1,4 +1,4 @@
--- Every step keeps the invariant.
+-- Every step keeps the invariant, and so does every abandon.
 use mathlib.Core.Path.{_≡_, refl, ap, sym, _∙_, subst}
 use mathlib.Core.Logic.{_≢_}
 use mathlib.Core.Bool.{true, false, true≢false}
@@ -8,7 +8,7 @@ use native.Mathlib.Omega.{arith}
 use Rattle.history.specs.Tools.{put, put-all, put-same, put-other, Split, split}
 use Rattle.history.specs.Machine.{Memory, take-snapshot, Phase, line-number, Effect, nothing, counts, publishes, stamps, takes-node,
     gives-back, Comes, goes-on, ends-with, answers-change, answers, line, memory-after, place-after, Place, unplaced, observes, Entry, Worker, idle,
-    busy, Catalogue, ended, turned-away, settle, affect, tick, stepped}
+    busy, Catalogue, ended, turned-away, settle, affect, tick, stepped, Found, no-node, node, held-node, give, left-off}
 use Rattle.history.specs.Facts.{MemoryFacts, Later}
 use Rattle.history.specs.Changes.{Allowed, effect-later}
 use Rattle.history.specs.PhaseFacts.{phase-later}
@@ -234,3 +234,55 @@ step-keeps s w (busy o l ph) invariant k = settled s invariant w o l ph k (line 
   where
     x : LineRight (s .now) o l (s .memory) ph (line (s .now) (s .memory) ph)
     x = every-line (s .now) o l (s .memory) (invariant .kept .memory) (k .begun) ph (k .facts)
+
+-- a worker is abandoned: it is idle, and its node goes back; the table stays
+pub left-off-keeps : (s : Catalogue) → Invariant s → (w o : ℕ) (ph : Phase) → Invariant (tick (left-off s w o ph))
+unfolding tick left-off
+left-off-keeps s invariant w o ph = at (held-node ph)
+  where
+    at : (g : Found) → Invariant (record { now = suc (s .now); memory = memory-after (s .now) o (give g) (s .memory); worker = put (s .worker) w idle; fate = s .fate; place = s .place })
+    at g = record {
+      kept = kept g;
+      workers = λ w'. put-all (λ (w' : ℕ) (x : Worker). WorkerRight (suc (s .now)) (memory-after (s .now) o (give g) (s .memory)) (s .fate) (s .place) w' x) (s .worker) w idle w'
+        (λ e. tt) (λ e. stays w' (s .worker w') (invariant .workers w'));
+      moved = λ h p. moved-later (later g) h (counter g p) refl refl (invariant .moved h (counter g p)) }
+      where
+        later : (g : Found) → Later (s .now) (s .memory) (memory-after (s .now) o (give g) (s .memory))
+        later no-node = effect-later (invariant .kept .memory) o take-snapshot false nothing tt
+        later (node y) = effect-later (invariant .kept .memory) o take-snapshot false (gives-back y) tt
+        kept : (g : Found) → Kept (suc (s .now)) (memory-after (s .now) o (give g) (s .memory)) (s .fate) (s .place)
+        kept no-node = unfold place-after in
+          (kept-by-effect (invariant .kept) o (s .fate o .operation) true refl (λ l. absurd (true≢false l)) nothing tt)
+        kept (node y) = unfold place-after in
+          (kept-by-effect (invariant .kept) o (s .fate o .operation) true refl (λ l. absurd (true≢false l)) (gives-back y) tt)
+        counter : (g : Found) {h : ℕ} → h < memory-after (s .now) o (give g) (s .memory) .camera .counter → h < s .memory .camera .counter
+        counter no-node p = unfold memory-after in p
+        counter (node y) p = unfold memory-after in p
+        stays : (w' : ℕ) (x : Worker) → WorkerRight (s .now) (s .memory) (s .fate) (s .place) w' x →
+            WorkerRight (suc (s .now)) (memory-after (s .now) o (give g) (s .memory)) (s .fate) (s .place) w' x
+        stays w' idle k = tt
+        stays w' (busy q l ph') k = record { begun = omega (arith, k .begun); worker = k .worker; operation = k .operation; unset = k .unset; unpub = k .unpub;
+            facts = phase-later q (later g) (k .begun) (invariant .kept .memory) l ph' (k .facts) }
+
+-- of the memory an abandoned worker changes the pool alone
+pub record PoolAlone (m m' : Memory) : Type 0 where
+  pub items : m' .items ≡ m .items
+  pub item : (i : ℕ) → m' .item i ≡ m .item i
+  pub camera : m' .camera ≡ m .camera
+  pub limits : m' .limits ≡ m .limits
+
+pub left-alone : (s : Catalogue) (w o : ℕ) (ph : Phase) → PoolAlone (s .memory) (left-off s w o ph .memory)
+unfolding left-off
+left-alone s w o ph = at (held-node ph)
+  where
+    at : (g : Found) → PoolAlone (s .memory) (memory-after (s .now) o (give g) (s .memory))
+    at no-node = unfold memory-after in (record { items = refl; item = λ i. refl; camera = refl; limits = refl })
+    at (node y) = unfold memory-after in (record { items = refl; item = λ i. refl; camera = refl; limits = refl })
+
+pub left-later : (s : Catalogue) → Invariant s → (w o : ℕ) (ph : Phase) → Later (s .now) (s .memory) (left-off s w o ph .memory)
+unfolding left-off
+left-later s invariant w o ph = at (held-node ph)
+  where
+    at : (g : Found) → Later (s .now) (s .memory) (memory-after (s .now) o (give g) (s .memory))
+    at no-node = effect-later (invariant .kept .memory) o take-snapshot false nothing tt
+    at (node y) = effect-later (invariant .kept .memory) o take-snapshot false (gives-back y) tt

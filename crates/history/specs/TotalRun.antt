@@ -7,12 +7,12 @@ use Prim.Native.Nat.{ℕ, suc, _+_, _≤_, _<_}
 use native.Mathlib.Omega.{arith}
 use lib.Dec.{eqb}
 use lib.ListN.{length}
-use Rattle.history.specs.Tools.{put-all, by-eq, by-lt, by-le}
+use Rattle.history.specs.Tools.{put, put-all, by-eq, by-lt, by-le}
 use Rattle.history.specs.Notes.{Note, ledger}
 use Rattle.history.specs.Notes as Notes
 use Rattle.history.specs.Notes.{helped}
 use Rattle.history.specs.Statements.{Fetched}
-use Rattle.history.specs.Machine.{Entry, ended, turned-away, Memory, Limits, found, node-to-take, Found, no-node, node, on-45, Operation,
+use Rattle.history.specs.Machine.{left-off, holds-node, Entry, ended, turned-away, Memory, Limits, found, node-to-take, Found, no-node, node, on-45, Operation,
     register, v-read, v-cas, take-snapshot, read-snapshot, total, Then, then-39, then-43, then-48, then-52, then-34, then-total-34, Phase, line-37,
     line-39, line-41, line-43, line-45, line-46, line-48, line-50, line-51, line-52, line-5, line-6, line-32, line-34, total-32, total-34, closing,
     line-20, line-21, line-22, after, total-at, helped-item, line-number, Comes, goes-on, ends-with, answers-change, answers, Next, only, line,
@@ -25,6 +25,7 @@ use Rattle.history.specs.RightAnswers.{phase-operation, has-published, L
 use Rattle.history.specs.EachLine.{every-line, the-read, walks-on, passes-on, helped-onto}
 use Rattle.history.specs.Places.{InOperation, WorkerRight, Invariant}
 use Rattle.history.specs.Run.{run-right, registered-later}
+use Rattle.history.specs.Step.{left-later}
 use Rattle.history.specs.MachineNotes.{event-note, machine-notes, phase-deed, ending, after-step, event-cases}
 use Rattle.history.specs.LedgerRight.{InLedger, Agrees, agrees}
 use Rattle.history.specs.Trace.{executed-more, executed-past}
@@ -194,6 +195,20 @@ module _ (s : Catalogue) (invariant : Invariant s) (run : List Note) (agreed : A
   unfolding tick
   after-quiet x = record { workers = λ w. keep (Notes.quiet x) (s .memory) unmoved w (s .worker w) refl; ends = old-end (Notes.quiet x) (s .memory) unmoved }
 
+  after-abandon : (w o : ℕ) (ph : Phase) → TotalRun (tick (left-off s w o ph)) (Notes.abandoned w (holds-node ph) ∷ run)
+  unfolding tick
+  after-abandon w o ph = record { workers = unfold left-off in workers; ends = unfold left-off in ends }
+    where
+      workers : (w' : ℕ) → WorkerTotal (left-off s w o ph .memory) (Notes.abandoned w (holds-node ph) ∷ run) (suc (s .now)) (left-off s w o ph .worker w')
+      workers w' = subst (λ (y : Worker). WorkerTotal (left-off s w o ph .memory) (Notes.abandoned w (holds-node ph) ∷ run) (suc (s .now)) y) is
+          (put-all (λ (w' : ℕ) (y : Worker). WorkerTotal (left-off s w o ph .memory) (Notes.abandoned w (holds-node ph) ∷ run) (suc (s .now)) y) (s .worker) w idle w' (λ e. tt)
+            (λ e. keep (Notes.abandoned w (holds-node ph)) (left-off s w o ph .memory) (left-later s invariant w o ph) w' (s .worker w') refl))
+        where
+          is : put (s .worker) w idle w' ≡ left-off s w o ph .worker w'
+          is = unfold left-off in refl
+      ends : (q : ℕ) → s .fate q .done ≡ true → EndTotal (left-off s w o ph .memory) (Notes.abandoned w (holds-node ph) ∷ run) q (suc (s .fate q .ended-at)) (s .fate q .lines) (s .fate q .operation)
+      ends = old-end (Notes.abandoned w (holds-node ph)) (left-off s w o ph .memory) (left-later s invariant w o ph)
+
   after-register : (v z y : ℕ) → TotalRun (tick (registered s v z y)) (Notes.registered (s .memory .items) v z ∷ run)
   unfolding tick registered
   after-register v z y =
@@ -293,7 +308,8 @@ event-total s run invariant agreed totals =
       (λ x q. after-quiet s invariant run agreed totals x)
       (λ v z p. after-register s invariant run agreed totals v z (found (node-to-take (s .memory))))
       (λ w op b f p. after-start s invariant run agreed totals w op)
-      (λ w o l ph b e. step-total s invariant run agreed totals w o l ph e) (omega arith)
+      (λ w o l ph b e. step-total s invariant run agreed totals w o l ph e)
+      (λ w o l ph b e. after-abandon s invariant run agreed totals w o ph) (omega arith)
 
 pub total-run : (limits : Limits) (es : List Event) → TotalRun (after-events limits es) (machine-notes limits es)
 unfolding after-events machine-notes fresh

@@ -11,7 +11,7 @@ use Rattle.history.specs.Tools.{put, put-all, put-same, put-other, by-eq
 use Rattle.history.specs.Notes.{Deed, Note, ledger}
 use Rattle.history.specs.Notes as Notes
 use Rattle.history.specs.Statements.{Executed}
-use Rattle.history.specs.Machine.{Entry, ended, turned-away, Item, Memory, Limits, found, node-to-take, Operation, register, v-read, v-cas,
+use Rattle.history.specs.Machine.{Camera, left-off, holds-node, Entry, ended, turned-away, Item, Memory, Limits, found, node-to-take, Operation, register, v-read, v-cas,
     take-snapshot, read-snapshot, total, Phase, total-at, line-number, Effect, nothing, counts, publishes, stamps, takes-node, gives-back, Comes,
     goes-on, ends-with, answers-change, answers, line, memory-after, place-after, Place, unplaced, awaits, changes, observes, Worker, idle, busy,
     Catalogue, settle, affect, tick, first-phase, begun, registered, fresh, Event, happens, after-events}
@@ -21,6 +21,7 @@ use Rattle.history.specs.RightAnswers.{phase-operation, has-published, L
 use Rattle.history.specs.EachLine.{every-line}
 use Rattle.history.specs.Places.{ChangeRight, ObserverRight, PlaceRight, InOperation, WorkerRight, Invariant}
 use Rattle.history.specs.Run.{run-right, registered-later}
+use Rattle.history.specs.Step.{left-alone, left-later}
 use Rattle.history.specs.MachineNotes.{event-note, machine-notes, phase-deed, ending, after-step, event-cases}
 use Rattle.history.specs.LedgerRight.{InLedger, Agrees, agrees}
 use Rattle.history.specs.Trace.{PhaseTraced, EndTraced, Stamping, MemoryTraced, WorkerTraced, Traced, Foreign, executed-past,
@@ -91,6 +92,35 @@ module _ (s : Catalogue) (invariant : Invariant s) (run : List Note) (A : Agrees
       (done-past s invariant q d) (seen-past s invariant q d) (T .ends q d)
 
   -- ---- refused, registered, started
+
+  after-abandon : (w o : ℕ) (ph : Phase) → Traced (tick (left-off s w o ph)) (Notes.abandoned w (holds-node ph) ∷ run)
+  unfolding tick
+  after-abandon w o ph =
+      record {
+        memory = traced-more L (invariant .kept .memory) run now (T .memory) (Notes.abandoned w (holds-node ph))
+          (λ i j a b. absurd (omega (arith, ap (λ (it : Item). it .versions) (left-alone s w o ph .item i))))
+          (λ i v a b. absurd (omega arith)) (λ i j a b. absurd (omega (arith, ap (λ (it : Item). it .valid) (left-alone s w o ph .item i)))) (λ i a b. absurd (omega arith))
+          (λ h a b. absurd (omega (arith, ap (λ (k : Camera). k .counter) (left-alone s w o ph .camera))));
+        workers = workers; ends = unfold left-off in ends }
+    where
+      L : Later (s .now) (s .memory) (left-off s w o ph .memory)
+      L = left-later s invariant w o ph
+      at : (q line : ℕ) (d : Deed) (t : ℕ) → Executed (Notes.abandoned w (holds-node ph) ∷ run) q line d t → Executed run q line d t
+      at q line d t e = pick (executed-inv run (Notes.abandoned w (holds-node ph)) e)
+        where
+          pick : Executed run q line d t ⊎ ((_≡_ {A = ℕ} 4 3) × (_≡_ {A = ℕ} 0 line) × (Notes.nothing ≡ d) × (ledger run .current w ≡ q)
+              × (length run ≡ t)) → Executed run q line d t
+          pick (inl z) = z
+          pick (inr z) = absurd (omega (arith, z .0))
+      workers : (w' : ℕ) → WorkerTraced (left-off s w o ph .memory) (Notes.abandoned w (holds-node ph) ∷ run) (left-off s w o ph .worker w')
+      workers w' = subst (λ (y : Worker). WorkerTraced (left-off s w o ph .memory) (Notes.abandoned w (holds-node ph) ∷ run) y) is
+          (put-all (λ (w' : ℕ) (y : Worker). WorkerTraced (left-off s w o ph .memory) (Notes.abandoned w (holds-node ph) ∷ run) y) (s .worker) w idle w' (λ e. tt)
+            (λ e. others (Notes.abandoned w (holds-node ph)) at (left-off s w o ph .memory) L w'))
+        where
+          is : put (s .worker) w idle w' ≡ left-off s w o ph .worker w'
+          is = unfold left-off in refl
+      ends : (q : ℕ) → s .fate q .done ≡ true → EndTraced (left-off s w o ph .memory) (Notes.abandoned w (holds-node ph) ∷ run) q (s .fate q .operation) (s .fate q .lines) (s .place q)
+      ends = old-end (Notes.abandoned w (holds-node ph)) (left-off s w o ph .memory) L
 
   after-quiet : (x : Notes.Look) → Traced (tick s) (Notes.quiet x ∷ run)
   unfolding tick
@@ -311,7 +341,8 @@ event-traced s run invariant A tr =
       (λ x q. after-quiet s invariant run A tr x)
       (λ v z p. after-register s invariant run A tr v z (found (node-to-take (s .memory))))
       (λ w op b f p. after-start s invariant run A tr w op)
-      (λ w o l ph b e. step-traced s invariant run A tr w o l ph e) (omega arith)
+      (λ w o l ph b e. step-traced s invariant run A tr w o l ph e)
+      (λ w o l ph b e. after-abandon s invariant run A tr w o ph) (omega arith)
 
 pub traced : (limits : Limits) (es : List Event) → Traced (after-events limits es) (machine-notes limits es)
 unfolding after-events machine-notes fresh

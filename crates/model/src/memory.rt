@@ -53,6 +53,8 @@ pub const COUNTER_READ: usize = 768;
 pub const LAST_TEST: usize = 832;
 // How line 46 went: 0 not yet, 1 it succeeded, 2 it failed.
 pub const OUTCOME: usize = 896;
+// 1 where the worker has taken a node at 45 that is neither published nor given back.
+pub const HOLDS: usize = 960;
 
 // Columns with a number for each of 256 items. The item's history is a row in the columns of versions.
 pub const ROW: usize = 1024;

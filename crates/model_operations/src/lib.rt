@@ -1,4 +1,5 @@
-// The model's operations: the five starts, and the steps.
+// The model's operations: the five starts, the steps, and abandon.
+pub mod abandons;
 pub mod starts;
 pub mod stepping;
 pub mod vcas;

@@ -3,6 +3,7 @@ use model::history::is_born_after;
 use model::memory::COUNTER;
 use model::memory::FETCH;
 use model::memory::HANDLE;
+use model::memory::HOLDS;
 use model::memory::ITEM;
 use model::memory::ITEMS;
 use model::memory::NEW;
@@ -54,12 +55,13 @@ fn refusal(memory: &[usize], lent: usize, worker: usize) -> usize {
     4
 }
 
-// No step is done, and the first one is to fetch a head.
+// No step is done, no node is held, and the first step is to fetch a head.
 fn begin(memory: &mut [usize], worker: usize, operation: usize) -> Reply {
     set_field(memory, OPERATION, worker, operation);
     set_field(memory, STEPS, worker, 0);
     set_field(memory, FETCH, worker, 1);
     set_field(memory, OUTCOME, worker, 0);
+    set_field(memory, HOLDS, worker, 0);
     done(0)
 }
 

@@ -66,15 +66,24 @@ pub fn ended_by(memory: &mut [usize], worker: usize, number: usize, steps: usize
     }
 }
 
-pub fn step(memory: &mut [usize], lent: usize, worker: usize) -> Reply {
+// The refusals that a step and an abandon share, in the table's order: 2, 3, 5; 0 for none.
+pub fn refusal(memory: &[usize], lent: usize, worker: usize) -> usize {
     if is_damaged(memory, lent) {
-        return refused(2);
+        return 2;
     }
     if get(memory, WORKERS) <= worker {
-        return refused(3);
+        return 3;
     }
     if is_resting(memory, worker) {
-        return refused(5);
+        return 5;
+    }
+    0
+}
+
+pub fn step(memory: &mut [usize], lent: usize, worker: usize) -> Reply {
+    let number = refusal(memory, lent, worker);
+    if number != 0 {
+        return refused(number);
     }
     let steps = sum(field(memory, STEPS, worker), 1);
     set_field(memory, STEPS, worker, steps);
@@ -110,7 +119,8 @@ fn move_counter(memory: &mut [usize], read: usize) {
 fn item_step(memory: &mut [usize], worker: usize, steps: usize) -> Reply {
     let fetch = field(memory, FETCH, worker);
     if steps < fetch {
-        return vcas::give_back(memory, steps);
+        vcas::give_back(memory, worker);
+        return running(steps);
     }
     let since = steps - fetch;
     if since == 0 {

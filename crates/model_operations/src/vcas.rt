@@ -3,6 +3,7 @@ use model::history::newest;
 use model::history::publish;
 use model::history::value_of;
 use model::memory::FETCH;
+use model::memory::HOLDS;
 use model::memory::ITEM;
 use model::memory::NEW;
 use model::memory::NODES;
@@ -63,6 +64,7 @@ fn take_node(memory: &mut [usize], worker: usize, steps: usize) -> Reply {
         return ended_by(memory, worker, 11, steps);
     }
     put(memory, TAKEN, sum(taken, 1));
+    set_field(memory, HOLDS, worker, 1);
     running(steps)
 }
 
@@ -78,6 +80,7 @@ fn change_head(memory: &mut [usize], worker: usize, steps: usize) -> Reply {
     }
     let new = field(memory, NEW, worker);
     publish(memory, item, new);
+    set_field(memory, HOLDS, worker, 0);
     set_field(memory, OUTCOME, worker, SUCCEEDED);
     set_field(memory, VERSION, worker, sum(version, 1));
     set_field(memory, FETCH, worker, steps);
@@ -85,8 +88,8 @@ fn change_head(memory: &mut [usize], worker: usize, steps: usize) -> Reply {
 }
 
 // Line 50: the node waits to be taken again.
-pub fn give_back(memory: &mut [usize], steps: usize) -> Reply {
+pub fn give_back(memory: &mut [usize], worker: usize) {
     let taken = get(memory, TAKEN);
     put(memory, TAKEN, less_one(taken));
-    running(steps)
+    set_field(memory, HOLDS, worker, 0);
 }

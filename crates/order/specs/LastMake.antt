@@ -76,6 +76,7 @@ module _ (ws : List ℕ) where
   next-call cs h (Call.read-snapshot w i k) t = go-on cs h (Call.read-snapshot w i k) (no-make-call _ _ t refl)
   next-call cs h (Call.total w q k) t = go-on cs h (Call.total w q k) (no-make-call _ _ t refl)
   next-call cs h (Call.step w) t = go-on cs h (Call.step w) (no-make-call _ _ t refl)
+  next-call cs h (Call.abandon w) t = go-on cs h (Call.abandon w) (no-make-call _ _ t refl)
 
   -- Demands 2 and 3 of any calls on any words.
   pub last-make : (cs : List Call) → AllTyped cs → Standing cs

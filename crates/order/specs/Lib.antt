@@ -5,3 +5,4 @@ pub mod WorkedTimes
 pub mod HelpedRun
 pub mod LostRun
 pub mod SharedRun
+pub mod AbandonedRun

@@ -2,6 +2,7 @@
 -- make is accepted.
 use mathlib.Core.Path.{_≡_, refl, ap, sym, _∙_, subst, subst-refl, pathJ}
 use mathlib.Core.Logic.{_↔_, _≢_}
+use mathlib.Core.Bool.{Bool}
 use mathlib.Core.List.{List, _∷_, map}
 use Prim.Native.Nat.{ℕ, pred, _+_, _<_}
 use native.Mathlib.Omega.{arith}
@@ -9,12 +10,13 @@ use lib.ListN.{length}
 use Rattle.definitions.specs.declared.Answer.{Answer}
 use Rattle.definitions.specs.Calls.{Call, outcome}
 use Rattle.history.specs.Definition1.{Operation, register, v-read, v-cas, take-snapshot, read-snapshot, total}
-use Rattle.history.specs.Notes.{Deed, Ending, goes-on, ends-with, Note, registered, started, stepped, start-of, note-by, note, words-after, notes, start,
+use Rattle.history.specs.Notes.{Deed, Ending, goes-on, ends-with, Note, registered, started, stepped, abandoned, start-of, note-by, note, words-after, notes, start,
     Run-call, Run, History, nodes-in-use, snapshot, ledger}
 use Rattle.history.specs.Effects.{effects}
 use Rattle.history.specs.Statements.{In, fate-of, Free, Promises}
-use Rattle.history.specs.Demands.{Least, numbers, step-numbers, items-now, Asked, Applies, Demands}
+use Rattle.history.specs.Demands.{Least, numbers, Step-numbers, items-now, Asked, Applies, Demands}
 use Rattle.history.specs.Accepts.{register-starts-none, accepts}
+use Rattle.history.specs.AbandonTold as AbandonTold
 use Rattle.history.specs.Registers as Registers
 use Rattle.history.specs.LineEnds.{ends-45, ends-5, below-limit}
 use Rattle.history.specs.AnswersTold.{step-told, start-told, register-told}
@@ -58,6 +60,9 @@ module _ (p m n q c : ℕ) {now : List ℕ} {run : List Note} (history : History
   pub of-step : (P : Note → List Note → Type 0) (w : ℕ) → P (machine-note state (Call.step w)) (machine-notes limits es) → P (note now (Call.step w)) run
   of-step P w = of-words P (Call.step w) (a-step w)
 
+  pub an-abandon : (w : ℕ) → Run-call now (Call.abandon w)
+  an-abandon w = sized-call now (Call.abandon w) (omega arith) refl
+
   -- ---- starts
 
   of-start : (w : ℕ) (op : Operation) → Run-call now (start-of w op) →
@@ -100,10 +105,12 @@ module _ (p m n q c : ℕ) {now : List ℕ} {run : List Note} (history : History
   of-answer x k a y e told = called-same p m n q c history x k .answer-is ∙ told (sym (noted-same p m n q c history x k) ∙ e)
 
   pub every-step : (w line : ℕ) (d : Deed) (e : Ending) → note now (Call.step w) ≡ stepped w line d e →
-    outcome now (Call.step w) .answer ≡ step-numbers e (length (line ∷ fate-of run (ledger run .current w) .lines))
+    Step-numbers e (length (line ∷ fate-of run (ledger run .current w) .lines)) (outcome now (Call.step w) .answer)
   every-step w line d e x =
-      of-answer (Call.step w) (a-step w) _ _ x (step-told limits es w line d e)
-        ∙ ap (λ (l : List Note). step-numbers e (length (line ∷ fate-of l (ledger l .current w) .lines))) (sym (I .told-is))
+      subst (λ (l : List Note). Step-numbers e (length (line ∷ fate-of l (ledger l .current w) .lines)) (outcome now (Call.step w) .answer)) (sym (I .told-is))
+        (subst (λ (a : Answer). Step-numbers e (length (line ∷ fate-of (machine-notes limits es) (ledger (machine-notes limits es) .current w) .lines)) a)
+          (sym (called-same p m n q c history (Call.step w) (a-step w) .answer-is))
+          (step-told limits es w line d e (sym (noted-same p m n q c history (Call.step w) (a-step w)) ∙ x)))
 
   pub every-start : (w : ℕ) (op : Operation) → note now (start-of w op) ≡ started w op → outcome now (start-of w op) .answer ≡ numbers 2 0 0
   every-start w (register i v s) e = absurd (no-register w i v s e)
@@ -133,6 +140,11 @@ module _ (p m n q c : ℕ) {now : List ℕ} {run : List Note} (history : History
         full = λ w d e. of-step (λ (x : Note) (l : List Note). x ≡ stepped w 5 d e → (e ≡ ends-with 12) ↔ ((t : ℕ) × In (snapshot t (pred c)) (effects l))) w
             (ends-5 limits es (I .fit .counter-in .0) (Call.step w) w d e);
         never-stuck = never-stuck; every-start = every-start;
+        abandons = λ w. of-words (λ (x : Note) (l : List Note). ((held : Bool) × (x ≡ abandoned w held)) ↔ ((w < p) × (Free l w → ⊥))) (Call.abandon w)
+            (an-abandon w) (AbandonTold.abandons limits es w);
+        frees = λ w held. of-words (λ (x : Note) (l : List Note). x ≡ abandoned w held → Free (abandoned w held ∷ l) w) (Call.abandon w) (an-abandon w)
+            (AbandonTold.frees limits es w held);
+        every-abandon = λ w held e. of-answer (Call.abandon w) (an-abandon w) _ _ e (AbandonTold.abandon-told limits es w held);
         every-register = λ i v s k e. of-answer (Call.register v s) k _ _ e (register-told state i v s); every-step = every-step; refused = refused }
 
   -- its order is that of the machine's run

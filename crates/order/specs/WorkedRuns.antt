@@ -1,5 +1,5 @@
--- What the three worked runs on words have in common. Their calls stand in history's Examples; HelpedRun, LostRun and SharedRun show of each, all
--- computed from the words, its notes, the order that the theorem gives, the order of the answers, which is another, and when what took effect.
+-- What the four worked runs on words have in common. Their calls stand in history's Examples; HelpedRun, LostRun, SharedRun and AbandonedRun show of each,
+-- all computed from the words, its notes, the order that the theorem gives, the order of the answers, which is another, and when what took effect.
 use mathlib.Core.Path.{_≡_, refl, ap, sym, _∙_}
 use mathlib.Core.Logic.{_≢_}
 use mathlib.Core.Bool.{Bool, true, false, not, _&&_}
@@ -10,7 +10,7 @@ use lib.ListN.{length, replicate}
 use Rattle.definitions.specs.Calls.{Call, making, outcome}
 use Rattle.cells.specs.Made.{is-make}
 use Rattle.history.specs.Tools.{and-parts}
-use Rattle.history.specs.Notes.{goes-on, answers, ends-with, Note, quiet, registered, started, stepped, words-after, notes, start, Run-call, Run,
+use Rattle.history.specs.Notes.{goes-on, answers, ends-with, given-up, Note, quiet, registered, started, stepped, abandoned, words-after, notes, start, Run-call, Run,
     ledger}
 use Rattle.history.specs.Statements.{OneOrder, Promises}
 use Rattle.history.specs.Effects.{effects}
@@ -78,6 +78,8 @@ answered (started w op ∷ past) = answered past
 answered (stepped w line d goes-on ∷ past) = answered past
 answered (stepped w line d (answers x) ∷ past) = ledger past .current w ∷ answered past
 answered (stepped w line d (ends-with n) ∷ past) = answered past
+answered (stepped w line d given-up ∷ past) = answered past
+answered (abandoned w b ∷ past) = answered past
 
 -- lists whose newest differ
 newest : List ℕ → ℕ

@@ -10,7 +10,7 @@ use lib.ListN.{length, getD}
 use Rattle.definitions.specs.Calls.{Call}
 use Rattle.history.specs.Definition1.{Operation, v-cas, take-snapshot, Follows}
 use Rattle.history.specs.Tools.{by-test, and-both}
-use Rattle.history.specs.Notes.{Deed, Ending, answers, Note, quiet, registered, started, stepped, Fate, ledger, Effect, birth, change, snapshot}
+use Rattle.history.specs.Notes.{Deed, Ending, answers, Note, quiet, registered, started, stepped, abandoned, Fate, ledger, Effect, birth, change, snapshot}
 use Rattle.history.specs.Statements.{In, fate-of, Executed, ChangeInstant, TakeInstant, CasInstant, Instant}
 use Rattle.history.specs.Effects.{effects}
 use Rattle.order.specs.WorkedRuns.{told-of, Plain, promised, order-of-theorem}
@@ -28,6 +28,7 @@ executed-at o line (registered i v s ∷ past) = executed-at o line past
 executed-at o line (started w op ∷ past) = executed-at o line past
 executed-at o line (stepped w k d e ∷ past) =
     cond (eqb (ledger past .current w) o && eqb k line) (length past ∷ executed-at o line past) (executed-at o line past)
+executed-at o line (abandoned w b ∷ past) = executed-at o line past
 
 one-more : (o line t : ℕ) (x : Note) (past : List Note) → In t (executed-at o line past) → In t (executed-at o line (x ∷ past))
 unfolding executed-at
@@ -36,6 +37,7 @@ one-more o line t (registered i v s) past n = n
 one-more o line t (started w op) past n = n
 one-more o line t (stepped w k d e) past n =
     by-test (λ (l : List ℕ). In t l) (eqb (ledger past .current w) o && eqb k line) (λ b. inr n) (λ b. n)
+one-more o line t (abandoned w b) past n = n
 
 noted-at : (w line : ℕ) (d : Deed) (e : Ending) (past run : List Note) → Follows (stepped w line d e) past run →
     In (length past) (executed-at (ledger past .current w) line run)

@@ -15,16 +15,16 @@ use Rattle.text.specs.Replies.{frames-of, lent, printed}
 use Rattle.history.specs.Notes.{words-after}
 use Rattle.order.specs.LastMake.{NoneMade, Made}
 
--- The frame that asks for a call. A bad frame asks for none.
-abbrev pub frame-of : Call → Frame
-frame-of (Call.make p m n q c) = Make p m n q c
-frame-of (Call.register v s) = Register v s
-frame-of (Call.v-read w i) = VRead w i
-frame-of (Call.v-cas w i old new) = VCas w i old new
-frame-of (Call.take-snapshot w) = TakeSnapshot w
-frame-of (Call.read-snapshot w i h) = ReadSnapshot w i h
-frame-of (Call.total w q h) = Total w q h
-frame-of (Call.step w) = Step w
+-- Which frames ask for which calls. A bad frame asks for none, and no frame asks for an abandon.
+pub data Asks : Frame → Call → Type 0 where
+  make : (p m n q c : ℕ) → Asks (Make p m n q c) (Call.make p m n q c)
+  register : (v s : ℕ) → Asks (Register v s) (Call.register v s)
+  v-read : (w i : ℕ) → Asks (VRead w i) (Call.v-read w i)
+  v-cas : (w i old new : ℕ) → Asks (VCas w i old new) (Call.v-cas w i old new)
+  take-snapshot : (w : ℕ) → Asks (TakeSnapshot w) (Call.take-snapshot w)
+  read-snapshot : (w i h : ℕ) → Asks (ReadSnapshot w i h) (Call.read-snapshot w i h)
+  total : (w q h : ℕ) → Asks (Total w q h) (Call.total w q h)
+  step : (w : ℕ) → Asks (Step w) (Call.step w)
 
 -- What is known after calls on the lent words, the newest first.
 pub data Known (calls : List Call) : Type 0 where
@@ -37,8 +37,8 @@ pub data Known (calls : List Call) : Type 0 where
 -- where the frame is bad, and that is no call.
 pub data Answered : (calls : List Call) → List Frame → (output : List ℕ) → Type 0 where
   at-the-end : {calls : List Call} → Known calls → Answered calls [] []
-  a-call : {calls : List Call} {frames : List Frame} {output : List ℕ} → Known calls → (x : Call) → Answered (x ∷ calls) frames output →
-    Answered calls (frame-of x ∷ frames) (answer-line (outcome (words-after lent calls) x .answer) ++ output)
+  a-call : {calls : List Call} {frames : List Frame} {output : List ℕ} → Known calls → (f : Frame) (x : Call) → Asks f x → Answered (x ∷ calls) frames output →
+    Answered calls (f ∷ frames) (answer-line (outcome (words-after lent calls) x .answer) ++ output)
   a-bad-frame : {calls : List Call} {frames : List Frame} {output : List ℕ} → Known calls → Answered calls frames output →
     Answered calls (Bad ∷ frames) (answer-line (refusal 13 0) ++ output)
 

@@ -94,6 +94,7 @@ module _ (p m n : ℕ) (ws : List ℕ) (T : Tidied p m n ws) where
   run-call (Call.read-snapshot w i h) t = other-call (Call.read-snapshot w i h) refl
   run-call (Call.total w q h) t = other-call (Call.total w q h) refl
   run-call (Call.step w) t = other-call (Call.step w) refl
+  run-call (Call.abandon w) t = other-call (Call.abandon w) refl
 
   -- a cell that stands and is not in use, as a word
   zero-word : (c : Cell) → Stands p m n c → in-use-now (cells-of ws) c ≡ false → (k : ℕ) → place (items-start p) (nodes-start p m) c ≡ k

@@ -12,7 +12,9 @@ pub mod Holding
 pub mod Homes
 pub mod Whole
 pub mod Step
+pub mod Abandon
 pub mod Start
+pub mod AbandonCall
 pub mod Register
 pub mod Run
 pub mod Never

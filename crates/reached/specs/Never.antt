@@ -8,7 +8,7 @@ use Rattle.definitions.specs.Answers.{Refusal, accepted}
 use Rattle.definitions.specs.Calls.{Call}
 use Rattle.history.specs.Notes.{damaged-code}
 use Rattle.history.specs.Tools.{by-eq, by-lt, by-le}
-use Rattle.history.specs.Machine.{Memory, Found, no-node, node, node-to-take, found, Operation, register, v-read, v-cas, take-snapshot, read-snapshot, total, Phase, line-37, line-39, line-41, line-43, line-45, line-46, line-48, line-50, line-51, line-52, line-5, line-6, line-32, line-34, total-32, total-34, closing, line-20, line-21, line-22, line-number, Comes, goes-on, ends-with, answers-change, answers, Next, on-45, line, Worker, idle, busy, Catalogue, Move, unless, refused, step-answer, stepped, stepping, starting, registering, move, reply, start-refusals, worker-refusals, step-refusals, register-refusals, begun, registered}
+use Rattle.history.specs.Machine.{Memory, Found, no-node, node, node-to-take, found, Operation, register, v-read, v-cas, take-snapshot, read-snapshot, total, Phase, line-37, line-39, line-41, line-43, line-45, line-46, line-48, line-50, line-51, line-52, line-5, line-6, line-32, line-34, total-32, total-34, closing, line-20, line-21, line-22, line-number, Comes, goes-on, ends-with, answers-change, answers, Next, on-45, line, Worker, idle, busy, Catalogue, Move, unless, refused, step-answer, stepped, stepping, left, abandoning, starting, registering, move, reply, start-refusals, worker-refusals, step-refusals, register-refusals, begun, registered}
 
 abbrev No-two : List Refusal → Type 0
 No-two [] = Unit {0}
@@ -84,6 +84,11 @@ unfolding stepped
 stepped-fine s w idle = λ e. absurd (omega arith)
 stepped-fine s w (busy o l ph) = answer-fine (line-number ph ∷ l) (line (s .now) (s .memory) ph .comes) (line-fine (s .now) (s .memory) ph)
 
+left-fine : (s : Catalogue) (w : ℕ) (x : Worker) → left s w x .answer .code ≢ damaged-code
+unfolding left
+left-fine s w idle = λ e. absurd (omega arith)
+left-fine s w (busy o l ph) = λ e. absurd (omega arith)
+
 -- The machine never answers 2.
 pub reply-fine : (s : Catalogue) (x : Call) → reply s x .code ≢ damaged-code
 unfolding reply move
@@ -100,3 +105,5 @@ reply-fine s (Call.total w q h) = starting-fine s w (total q h)
 reply-fine s (Call.step w) = unfold stepping in
     unless-fine s (step-refusals s w) (stepped s w (s .worker w)) ((λ e. absurd (omega arith)), ((λ e. absurd (omega arith)), tt))
         (stepped-fine s w (s .worker w))
+reply-fine s (Call.abandon w) = unfold abandoning in
+    unless-fine s (step-refusals s w) (left s w (s .worker w)) ((λ e. absurd (omega arith)), ((λ e. absurd (omega arith)), tt)) (left-fine s w (s .worker w))

@@ -14,10 +14,10 @@ use Rattle.definitions.specs.Phases.{row-of, table}
 use Rattle.definitions.specs.Damage.{TBD}
 use Rattle.definitions.specs.Calls.{Call, outcome}
 use Rattle.history.specs.Tools.{Split, split}
-use Rattle.history.specs.Notes.{Deed, fetches, finds, moves, step-note, deed-at, note-by, note, Run-call}
+use Rattle.history.specs.Notes.{Deed, fetches, finds, moves, step-note, holds-at, if-accepted, deed-at, note-by, note, Run-call}
 use Rattle.history.specs.Notes as Notes
 use Rattle.history.specs.MachineNotes.{fetch, phase-deed, worker-line, worker-deed, machine-note}
-use Rattle.history.specs.Machine.{Memory, Then, then-39, then-43, then-48, then-52, then-34, then-total-34, Phase, line-37, line-39, line-41, line-43, line-45, line-46, line-48, line-50, line-51, line-52, line-5, line-6, line-32, line-34, total-32, total-34, closing, line-20, line-21, line-22, helped-item, line-number, Worker, idle, busy, Catalogue, Move, refused, stepping, move, reply}
+use Rattle.history.specs.Machine.{Memory, Then, then-39, then-43, then-48, then-52, then-34, then-total-34, Phase, line-37, line-39, line-41, line-43, line-45, line-46, line-48, line-50, line-51, line-52, line-5, line-6, line-32, line-34, total-32, total-34, closing, line-20, line-21, line-22, helped-item, line-number, Worker, idle, busy, Catalogue, Move, refused, stepping, abandoning, move, reply}
 use Rattle.reached.specs.Parts.{shared-of, local-of}
 use Rattle.reached.specs.Grows.{Known, then-item}
 use Rattle.reached.specs.Image.{Owner, Kept, Busy-image, Holds, phase-number, help-number, Then-kept}
@@ -189,6 +189,30 @@ step-same f s Z F w = at (split w (s .memory .limits .workers)) (s .worker w) re
         B : Busy-image (s .memory .item) (local-of f w) (length ls) ph
         B = is-busy f s Z w l o ls ph e (F w o ls ph e)
 
+-- Of an abandoned worker they show the line that it stood at.
+abandon-same : (f : Cells) (s : Catalogue) (Z : Catalogue-image f s) → Few-steps (s .worker) → (w : ℕ)
+    → if-accepted (reply s (Call.abandon w)) (Notes.abandoned w (holds-at (row-of (f (phase w)) .line)))
+      ≡ if-accepted (reply s (Call.abandon w)) (Notes.abandoned w (holds-at (worker-line (s .worker w))))
+abandon-same f s Z F w = at (split w (s .memory .limits .workers)) (s .worker w) refl
+  where
+    Goal : Worker → Answer → Type 0
+    Goal v a = if-accepted a (Notes.abandoned w (holds-at (row-of (f (phase w)) .line))) ≡ if-accepted a (Notes.abandoned w (holds-at (worker-line v)))
+    moved-3 : s .memory .limits .workers ≤ w → move s (Call.abandon w) ≡ refused s 3
+    moved-3 l = unfold move abandoning in rw (le-leb (s .memory .limits .workers) w l)
+    moved-5 : w < s .memory .limits .workers → s .worker w ≡ idle → move s (Call.abandon w) ≡ refused s 5
+    moved-5 l e = unfold move abandoning in rw (lt-leb (s .memory .limits .workers) w l, e)
+    refused-note : (number : ℕ) → move s (Call.abandon w) ≡ refused s number → eqb (16 + number) 2 ≡ false → Goal (s .worker w) (reply s (Call.abandon w))
+    refused-note number e d = subst (λ (a : Answer). Goal (s .worker w) a) (sym replies) (rw d)
+      where
+        replies : reply s (Call.abandon w) ≡ refusal number 0
+        replies = unfold reply in ap (λ (y : Move). y .answer) e
+    at : Split w (s .memory .limits .workers) → (v : Worker) → s .worker w ≡ v → Goal (s .worker w) (reply s (Call.abandon w))
+    at (Split.more l) v e = refused-note 3 (moved-3 l) refl
+    at (Split.less l) idle e = refused-note 5 (moved-5 l e) refl
+    at (Split.less l) (busy o ls ph) e =
+        ap (λ (k : ℕ). if-accepted (reply s (Call.abandon w)) (Notes.abandoned w (holds-at k)))
+          (ap (λ (k : ℕ). row-of k .line) (is-busy f s Z w l o ls ph e (F w o ls ph e) .phase-is) ∙ line-same ph ∙ sym (ap worker-line e))
+
 pub note-same : (ws : List ℕ) (s : Catalogue) → Words-image ws s → Few-steps (s .worker) → (x : Call) → Run-call ws x → note ws x ≡ machine-note s x
 note-same ws s U F x t = at x (every-call ws s U F x t .answer-is)
   where
@@ -201,3 +225,4 @@ note-same ws s U F x t = at x (every-call ws s U F x t .answer-is)
     at (Call.read-snapshot w i h) e = unfold note-by machine-note in rw e
     at (Call.total w q h) e = unfold note-by machine-note in rw e
     at (Call.step w) e = unfold note-by machine-note in rw e (step-same (cells-of ws) s (U .image) F w)
+    at (Call.abandon w) e = unfold note-by machine-note in rw e (abandon-same (cells-of ws) s (U .image) F w)

@@ -235,7 +235,7 @@ module _ (f : Cells) (m : Memory) (own : ℕ → Owner) (w : ℕ) (X : Standing 
       at true e = refl
       at false e = taken-fits e
 
-  returned-words : f (new-node w) < f used → returned-node f w ≡ false
+  pub returned-words : f (new-node w) < f used → returned-node f w ≡ false
   returned-words l =
       neither _ _ (le-ltb (f used) (f (older (f (new-node w)))) (X .nodes .older-in (f (new-node w)) (node-in (f (new-node w)) l)))
           first-fits

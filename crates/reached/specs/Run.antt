@@ -28,6 +28,7 @@ use Rattle.reached.specs.ImageEffects.{first-in}
 use Rattle.reached.specs.Whole.{Few-steps, Limits-fit, Catalogue-image, Call-image, Agree, image-agree}
 use Rattle.reached.specs.Step.{step-image}
 use Rattle.reached.specs.Start.{v-read-image, v-cas-image, take-snapshot-image, read-snapshot-image, total-image}
+use Rattle.reached.specs.AbandonCall.{abandon-call}
 use Rattle.reached.specs.Register.{register-call}
 
 -- A call that is no make.
@@ -44,6 +45,7 @@ size-of (Call.take-snapshot w) = 0
 size-of (Call.read-snapshot w i h) = 0
 size-of (Call.total w q h) = 0
 size-of (Call.step w) = 0
+size-of (Call.abandon w) = 0
 
 pub typed-size : (x : Call) → size-of x < 4294967296 → Typed x
 typed-size x b v s e = subst (λ (y : Call). size-of y < 4294967296) e b
@@ -86,6 +88,7 @@ call-image f s Z F (Call.take-snapshot w) t e = take-snapshot-image f s Z F w
 call-image f s Z F (Call.read-snapshot w i h) t e = read-snapshot-image f s Z F w i h
 call-image f s Z F (Call.total w q h) t e = total-image f s Z F w q h
 call-image f s Z F (Call.step w) t e = step-image f s Z F w
+call-image f s Z F (Call.abandon w) t e = abandon-call f s Z F w
 
 -- One call on words that are an image.
 pub record Called (ws : List ℕ) (s : Catalogue) (x : Call) : Type 0 where
@@ -152,6 +155,7 @@ every-call ws s U F (Call.take-snapshot w) t = other-call ws s U F (Call.take-sn
 every-call ws s U F (Call.read-snapshot w i h) t = other-call ws s U F (Call.read-snapshot w i h) (t .typed) refl
 every-call ws s U F (Call.total w q h) t = other-call ws s U F (Call.total w q h) (t .typed) refl
 every-call ws s U F (Call.step w) t = other-call ws s U F (Call.step w) (t .typed) refl
+every-call ws s U F (Call.abandon w) t = other-call ws s U F (Call.abandon w) (t .typed) refl
 
 -- ---- from an accepted make
 

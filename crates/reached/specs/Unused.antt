@@ -14,13 +14,13 @@ use Rattle.definitions.specs.Cells.{Cell, cell, Cells, Assignment, _≔_, items
 use Rattle.definitions.specs.Answers.{Outcome, Refusal, unless, _⇒_, goes-on, accepts}
 use Rattle.definitions.specs.Phases.{row-of, table, v-read-start, v-cas-start, published, lost, take-snapshot-start, read-snapshot-start, total-start, closing-phase}
 use Rattle.definitions.specs.Damage.{TBD, inside-item, bad-value, bad-handle, keeps-node, keeps-new-node, running-damaged, worker-damaged, step-damaged, item-damaged, first-damaged}
-use Rattle.definitions.specs.Lines.{lines, line-of-phase, fetch-head, line-20, line-21, line-22, line-39, line-43, line-45, line-46, line-48, line-50, line-52, line-5, line-6, line-34, total-32, total-34, closing, no-node, node-to-take, too-new, to-older, added}
-use Rattle.definitions.specs.Calls.{Call, busy, no-worker, free-worker, sound-item, registering, registered, starting-v-read, starting-v-cas, starting-take-snapshot, starting-read-snapshot, starting-total, stepping}
+use Rattle.definitions.specs.Lines.{lines, line-of-phase, fetch-head, line-20, line-21, line-22, line-39, line-43, line-45, line-46, line-48, line-50, line-52, line-5, line-6, line-34, total-32, total-34, closing, no-node, node-to-take, too-new, to-older, added, returning, returned-node}
+use Rattle.definitions.specs.Calls.{Call, busy, no-worker, free-worker, sound-item, registering, registered, starting-v-read, starting-v-cas, starting-take-snapshot, starting-read-snapshot, starting-total, stepping, holds-node, returned-if-held, abandoning}
 use Rattle.cells.specs.Stands.{Stands}
 use Rattle.cells.specs.Update.{put, after, same-cell}
 use Rattle.cells.specs.Made.{comes-to}
 use Rattle.cells.specs.Rows.{by-test, Rows, at-phase, Passed, refused-or}
-use Rattle.cells.specs.Spares.{first-false, second-false, where-asked, Kept-in, kept-in}
+use Rattle.cells.specs.Spares.{first-false, Kept-in, busy-kept}
 
 -- In use are the header's first nine words, the first thirteen of a worker that runs, three of each of u items, and the three of each of t nodes.
 abbrev pub in-use : (ℕ → Bool) → (u t : ℕ) → Cell → Bool
@@ -303,10 +303,13 @@ module _ (f : Cells) (first-in : f given-back ≤ f used) where
             (plain f w _ refl refl (λ v. refl) (inl (lt-ltb _ _ (k .item-in e)), (inl (self w), tt))) (omega arith))
         (λ a. goes f w lost [] (empty f w) (omega arith))
 
+    -- the new node goes back
+    returned : f (new-node w) < f used → Body f w (returning f w)
+    returned l = plain f w _ refl refl (λ v. refl) (inl (lt-ltb _ _ l), (inl refl, tt))
+
     line-50-fine : (r : PhaseRow) → keeps-new-node r ≡ true → Line-fine r line-50
     unfolding line-50
-    line-50-fine r e k h = next (older (f (new-node w)) ≔ f given-back ∷ given-back ≔ (f (new-node w) + 1) ∷ [])
-        (plain f w _ refl refl (λ v. refl) (inl (lt-ltb _ _ (k .new-node-in e)), (inl refl, tt)))
+    line-50-fine r e k h = next (returning f w) (returned (k .new-node-in e))
 
     line-5-fine : (r : PhaseRow) → Line-fine r line-5
     unfolding line-5
@@ -371,10 +374,19 @@ module _ (f : Cells) (first-in : f given-back ≤ f used) where
       ∷ (inside-item (row-of (f (phase w))) && item-damaged f (f (item w))) ⇒ 2 ∷ line-of-phase (f (phase w)) .damaged f w ⇒ 2 ∷ [])
       (line-of-phase (f (phase w)) .does f w)
       (λ k. line-fine w (f (phase w)) (ltb-false 35 (f (phase w)) (first-false (ltb 35 (f (phase w))) (known w) (k .1 .0)))
-        (kept-in (row-of (f (phase w))) f w
-        (where-asked (not (eqb (f (phase w)) 0)) (running-damaged (row-of (f (phase w))) f w)
-            (second-false (ltb 35 (f (phase w))) (known w) (k .1 .0)) (ap not (k .1 .1 .1 .0))))
+        (busy-kept f w (k .1 .0) (k .1 .1 .1 .0))
         (eqb-false (f (phase w)) 0 (k .1 .1 .1 .0)))
+
+  abandon-fine : (w : ℕ) → Fine (abandoning f w)
+  unfolding abandoning
+  abandon-fine w =
+      unless-fine (no-worker f w ⇒ 3 ∷ worker-damaged f w ⇒ 2 ∷ eqb (f (phase w)) 0 ⇒ 5 ∷ (holds-node f w && returned-node f w) ⇒ 2 ∷ [])
+      (accepts 0 (returned-if-held f w ++ cleared w))
+      (λ k. ends f w (returned-if-held f w) (at (holds-node f w) (busy-kept f w (k .1 .0) (k .1 .1 .0) .new-node-in)))
+    where
+      at : (b : Bool) → (b ≡ true → f (new-node w) < f used) → Body f w (cond b (returning f w) [])
+      at true h = returned w (h refl)
+      at false h = empty f w
 
   registers : (v z : ℕ) (b : Bool) → eqb (f given-back) 0 ≡ b
       → Keeps f (took b ++ (value (taken b) ≔ v ∷ older (taken b) ≔ 0 ∷ stamp (taken b) ≔ f counter
@@ -409,6 +421,7 @@ module _ (f : Cells) (first-in : f given-back ≤ f used) where
       (free-worker f w ++ (bad-value f q ⇒ 7 ∷ bad-handle f h ⇒ 8 ∷ []))
       (one-of-two w (eqb (f items) 0) closing-phase total-start (omega arith) (omega arith))
   call-keeps (Call.step w) = step-fine w
+  call-keeps (Call.abandon w) = abandon-fine w
 
 -- Every call but make leaves what is not in use at zero, whatever else the cells hold.
 pub call-keeps-rest : (p m n : ℕ) (f : Cells) → f given-back ≤ f used → (x : Call) → Rest-zero p m n f

@@ -1,4 +1,4 @@
--- All wrong catalogues of document 01 are refuted, and the right one is not.
+-- All wrong catalogues of document 01, and wrong abandons, are refuted, and the right one is not.
 --
 -- | Wrong catalogue (Wrong) | Its run | What is false of it |
 -- |---|---|---|
@@ -13,6 +13,9 @@
 -- | 22 overwrites a valid stamp | document 01's run 8 | `reads`: the read answers 1, and the item was charged to 2 when the counter left 0 |
 -- | C tested at the start | C = 1 and handle 0 taken | `accepted`: a free worker's takeSnapshot is refused |
 -- | 34 stops only strictly below | a change of stamp 1, read at handle 1 | `reads`: it answers the value before; at handle 0, `never-2` |
+-- | an abandon that keeps the node (WrongAbandons) | three abandons at 46 | `no-node`: 11 with one of four nodes in use |
+-- | an abandon that moves the counter | an abandoned takeSnapshot | `accepted`: a total is accepted at a handle that the counter has not left |
+-- | an abandon that withdraws a published change, or stamps it | a change abandoned after 46, then another | `stamped-first`: published over a node that no line 22 stamped |
 --
 -- Stamping before 46 and help left out break Definition 1 in any order (`AnyOrder`), whatever the instants. The whole operation in its first step is
 -- ruled out by document 01's instants: no change has taken effect that the vRead could have read.
@@ -31,12 +34,15 @@ use Rattle.refuted.specs.Hollow.{refuses-everything-refuted, constant-an
     whole-operation-at-once-refuted}
 use Rattle.refuted.specs.Errors.{stamped-before-published-refuted, v-read-without-help-refuted, lost-v-cas-without-help-refuted,
     stamp-overwritten-at-22-refuted, counter-tested-at-the-start-refuted, stops-strictly-below-refuted}
+use Rattle.refuted.specs.WrongAbandons.{abandon-keeps-the-node, abandon-moves-the-counter, abandon-withdraws-a-change, abandon-stamps,
+    abandon-keeps-the-node-refuted, abandon-moves-the-counter-refuted, abandon-withdraws-a-change-refuted, abandon-stamps-refuted}
 
 pub wrong-catalogues : List Catalogue
 wrong-catalogues =
     refuses-everything ∷ constant-answer ∷ steps-alter-nothing ∷ invented-step-count ∷ whole-operation-at-once
     ∷ stamped-before-published ∷ v-read-without-help ∷ lost-v-cas-without-help ∷ stamp-overwritten-at-22 ∷ counter-tested-at-the-start
-    ∷ stops-strictly-below ∷ []
+    ∷ stops-strictly-below
+    ∷ abandon-keeps-the-node ∷ abandon-moves-the-counter ∷ abandon-withdraws-a-change ∷ abandon-stamps ∷ []
 
 abbrev pub Every : (Catalogue → Type 0) → List Catalogue → Type 0
 Every P [] = Unit {0}
@@ -47,7 +53,8 @@ unfolding wrong-catalogues
 all-refuted =
     (refuses-everything-refuted, (constant-answer-refuted, (steps-alter-nothing-refuted, (invented-step-count-refuted, (whole-operation-at-once-refuted,
     (stamped-before-published-refuted, (v-read-without-help-refuted, (lost-v-cas-without-help-refuted, (stamp-overwritten-at-22-refuted,
-    (counter-tested-at-the-start-refuted, (stops-strictly-below-refuted, tt)))))))))))
+    (counter-tested-at-the-start-refuted, (stops-strictly-below-refuted,
+    (abandon-keeps-the-node-refuted, (abandon-moves-the-counter-refuted, (abandon-withdraws-a-change-refuted, (abandon-stamps-refuted, tt)))))))))))))))
 
 -- No run refutes `outcome`: that is demands 2 and 3, for every list of calls (`run-demands`).
 pub outcome-not-refuted : Refuted outcome → ⊥

@@ -7,4 +7,5 @@ pub mod ReadLaws
 pub mod Runs
 pub mod Hollow
 pub mod Errors
+pub mod WrongAbandons
 pub mod All

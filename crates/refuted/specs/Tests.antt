@@ -9,8 +9,9 @@ use lib.Dec.{T, eqb}
 use lib.ListN.{length, drop}
 use Rattle.history.specs.Definition1.{take-snapshot, Follows}
 use Rattle.history.specs.Tools.{put-all, put-other, Split, split, Same, same?, and-parts}
-use Rattle.history.specs.Notes.{Deed, Ending, ends-with, Note, quiet, registered, started, stepped, refused, Fate, begins, entered, ledger}
+use Rattle.history.specs.Notes.{Deed, Ending, ends-with, Note, quiet, registered, started, stepped, abandoned, refused, Fate, begins, entered, ledger}
 use Rattle.history.specs.NoteParts.{ending-tag}
+use Rattle.history.specs.Abandons.{no-operation, none-later}
 use Rattle.history.specs.Statements.{fate-of, Free, Executed}
 
 -- ---- tests
@@ -33,31 +34,6 @@ each-below (suc n) test t o h = at (same? o n) (λ less. each-below n test (and-
     at (Same.ne d) below = below (omega (arith, h, d))
 
 -- ---- what every operation came to
-
--- what stands where none was started
-abbrev pub no-operation : Fate
-no-operation = begins take-snapshot 0 (ends-with 0) 0
-
-current-before : (run : List Note) (w : ℕ) → ledger run .current w ≤ length run
-unfolding ledger entered
-current-before [] w = omega arith
-current-before (quiet x ∷ past) w = omega (arith, current-before past w)
-current-before (registered i v s ∷ past) w = omega (arith, current-before past w)
-current-before (started w' op ∷ past) w =
-    put-all (λ (k x : ℕ). x ≤ suc (length past)) (ledger past .current) w' (length past) w (λ e. omega arith)
-      (λ n. omega (arith, current-before past w))
-current-before (stepped w' line d e ∷ past) w = omega (arith, current-before past w)
-
-none-later : (run : List Note) (o : ℕ) → length run ≤ o → fate-of run o ≡ no-operation
-unfolding ledger entered
-none-later [] o h = refl
-none-later (quiet x ∷ past) o h = none-later past o (omega (arith, h))
-none-later (registered i v s ∷ past) o h =
-    put-other (ledger past .fate) (length past) _ o (λ e. omega (arith, h, e)) ∙ none-later past o (omega (arith, h))
-none-later (started w op ∷ past) o h =
-    put-other (ledger past .fate) (length past) _ o (λ e. omega (arith, h, e)) ∙ none-later past o (omega (arith, h))
-none-later (stepped w line d x ∷ past) o h =
-    put-other (ledger past .fate) (ledger past .current w) _ o (λ e. omega (arith, h, e, current-before past w)) ∙ none-later past o (omega (arith, h))
 
 -- a test that holds of each operation, and where there is none
 pub every-fate : (run : List Note) (test : ℕ → Fate → Bool) → ((o : ℕ) → T (test o no-operation)) → T (all-below (length run) (λ o. test o (fate-of run o))) →
@@ -100,6 +76,7 @@ of-line test (quiet x) past = true
 of-line test (registered i v s) past = true
 of-line test (started w op) past = true
 of-line test (stepped w line d e) past = test (ledger past .current w) line d (length past)
+of-line test (abandoned w held) past = true
 
 pub every-line : (test : LineTest) (run : List Note) → T (all-noted (of-line test) run) → {o line t : ℕ} {d : Deed} → Executed run o line d t →
     T (test o line d t)

@@ -16,19 +16,25 @@ use Rattle.cells.specs.Made.{is-make}
 use Rattle.history.specs.Tools.{by-test}
 use Rattle.history.specs.Notes.{Catalogue}
 
--- outcome, but for the starts of takeSnapshots and for steps
-unfoldable pub but : (take step : List ℕ → (w : ℕ) → Result) → Catalogue
-but take step ws (Call.make p m n q c) = outcome ws (Call.make p m n q c)
-but take step ws (Call.register v s) = outcome ws (Call.register v s)
-but take step ws (Call.v-read w i) = outcome ws (Call.v-read w i)
-but take step ws (Call.v-cas w i o n) = outcome ws (Call.v-cas w i o n)
-but take step ws (Call.take-snapshot w) = take ws w
-but take step ws (Call.read-snapshot w i h) = outcome ws (Call.read-snapshot w i h)
-but take step ws (Call.total w q h) = outcome ws (Call.total w q h)
-but take step ws (Call.step w) = step ws w
+-- outcome, but for the starts of takeSnapshots, for steps and for abandons
+unfoldable pub but : (take step leave : List ℕ → (w : ℕ) → Result) → Catalogue
+but take step leave ws (Call.make p m n q c) = outcome ws (Call.make p m n q c)
+but take step leave ws (Call.register v s) = outcome ws (Call.register v s)
+but take step leave ws (Call.v-read w i) = outcome ws (Call.v-read w i)
+but take step leave ws (Call.v-cas w i o n) = outcome ws (Call.v-cas w i o n)
+but take step leave ws (Call.take-snapshot w) = take ws w
+but take step leave ws (Call.read-snapshot w i h) = outcome ws (Call.read-snapshot w i h)
+but take step leave ws (Call.total w q h) = outcome ws (Call.total w q h)
+but take step leave ws (Call.step w) = step ws w
+but take step leave ws (Call.abandon w) = leave ws w
+
+abbrev right-abandon : List ℕ → ℕ → Result
+right-abandon ws w = outcome ws (Call.abandon w)
 
 abbrev pub but-steps : (List ℕ → ℕ → Result) → Catalogue
-but-steps = but (λ ws w. outcome ws (Call.take-snapshot w))
+but-steps step = but (λ ws w. outcome ws (Call.take-snapshot w)) step right-abandon
+abbrev pub but-abandons : (List ℕ → ℕ → Result) → Catalogue
+but-abandons = but (λ ws w. outcome ws (Call.take-snapshot w)) (λ ws w. outcome ws (Call.step w))
 
 -- ---- hollow versions
 
@@ -163,7 +169,7 @@ refused-where-full ws w =
     cond (eqb (r .answer .code) 2 && counter-full (cells-of ws)) (record { answer = refusal 12 0; words = ws }) r
 
 unfoldable pub counter-tested-at-the-start : Catalogue
-counter-tested-at-the-start = but refused-where-full (stepping-other 5 untested)
+counter-tested-at-the-start = but refused-where-full (stepping-other 5 untested) right-abandon
 
 -- Stopping only at a stamp strictly below the handle: line 34 goes on to the older node also where the stamp is the handle.
 abbrev pub not-below : Cells → ℕ → Bool

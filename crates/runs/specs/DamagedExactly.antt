@@ -13,7 +13,7 @@ use Rattle.definitions.specs.Answers.{Outcome, refused, unless, accepted, accep
 use Rattle.definitions.specs.Phases.{table}
 use Rattle.definitions.specs.Damage.{header-damaged-at}
 use Rattle.definitions.specs.Calls.{Call, Result, free-worker, sound-item, registering, starting-v-read, starting-v-cas, starting-take-snapshot,
-    starting-read-snapshot, starting-total, stepping, making, outcome}
+    starting-read-snapshot, starting-total, stepping, abandoning, making, outcome}
 use Rattle.runs.specs.UsedWords.{Outside, Row, rows, words-of-worker}
 use Rattle.runs.specs.RefusalsInOrder.{Refusal, _⇒_, Follows, First, item-named, start, refusals, refusals-of}
 use Rattle.runs.specs.TestsSay.{Says, says-or, says-and, says-not, says-<, says-≤, says-≡, not-<}
@@ -79,6 +79,17 @@ module _ (m : Cells) where
         known : (Outside (words-of-worker m w) → ⊥) → p ≤ 35
         known f = not-< p 35 (λ h. f (inl (λ k. omega arith)))
 
+    abandons : (w : ℕ) → Followed (refusals m lent (Call.abandon w)) (past (abandoning m w))
+    unfolding abandoning
+    abandons w =
+        refuse (header-says lent m) (λ h. refuse (says-≤ _ _) (λ a. refuse (worker-says m w p) (λ b. refuse (says-≡ p 0) (λ d.
+          refuse (busy-agrees m w p (known b) d .abandoned .says) (λ e. accept _ _)))))
+      where
+        p : ℕ
+        p = m (phase w)
+        known : (Outside (words-of-worker m w) → ⊥) → p ≤ 35
+        known f = not-< p 35 (λ h. f (inl (λ k. omega arith)))
+
 make-follows : (b : Bool) (P : Type 0) (x y : List ℕ) → Says b P
     → Follows (P ⇒ 1 ∷ []) (cond {A = Result} b (record { answer = refusal 1 0; words = x }) (record { answer = accepted 0; words = y }) .answer)
 make-follows true P x y s = inl (s .passes refl, refl)
@@ -95,6 +106,7 @@ refused-exactly ws (Call.take-snapshot w) = starts-take-snapshot (cells-of ws) (
 refused-exactly ws (Call.read-snapshot w i h) = starts-read-snapshot (cells-of ws) (length ws) w i h .follows
 refused-exactly ws (Call.total w q h) = starts-total (cells-of ws) (length ws) w q h .follows
 refused-exactly ws (Call.step w) = steps-on (cells-of ws) (length ws) w .follows
+refused-exactly ws (Call.abandon w) = abandons (cells-of ws) (length ws) w .follows
 
 numbered : (k : ℕ) (a : Answer) (rs : List Refusal) → Follows rs a → (a .code ≡ 16 + k) ↔ First k rs
 numbered k a [] h = (λ e. omega arith, absurd)

@@ -67,7 +67,7 @@ Every P (r ∷ rs) = P r × Every P rs
 -- k steps of a worker, and the answers of a running operation from step f + 1 on.
 abbrev steps : ℕ → ℕ → List Call
 steps k w = replicate k (step w)
-abbrev running-on : ℕ → ℕ → List Answer
+abbrev pub running-on : ℕ → ℕ → List Answer
 running-on f zero = []
 running-on f (suc k) = running (f + 1) ∷ running-on (f + 1) k
 

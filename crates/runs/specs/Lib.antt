@@ -1,6 +1,7 @@
 pub mod Fifteen
 pub mod MayAnswer
 pub mod DamagedWords
+pub mod AbandonedWords
 pub mod UsedWords
 pub mod RefusalsInOrder
 pub mod TestsSay

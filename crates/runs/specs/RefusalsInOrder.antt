@@ -1,5 +1,5 @@
--- Document 01's numbers of refusal, in order and on any words, damaged or not: for each call the conditions, each in the words of document 01's table or of
--- UsedWords. DamagedExactly proves that every answer is that of the first condition that holds.
+-- Document 01's numbers of refusal, and document 02's of an abandon, in order and on any words, damaged or not: for each call the conditions, each in the
+-- words of document 01's table or of UsedWords. DamagedExactly proves that every answer is that of the first condition that holds.
 use Prim.Native.Nat.{ℕ, _+_, _*_, _≤_, _<_}
 use mathlib.Core.List.{List, [], _∷_, _++_}
 use mathlib.Core.Logic.{_≢_, _⊎_}
@@ -70,6 +70,8 @@ module _ (m : Cells) where
     refusals (Call.step w) =
         header-damage ∷ (m workers ≤ w) ⇒ 3 ∷ Outside (words-of-worker m w) ⇒ 2 ∷ Outside (its-row m w .before-a-step) ⇒ 2 ∷ (m (phase w) ≡ 0) ⇒ 5
         ∷ Outside (its-row m w .item-words) ⇒ 2 ∷ Outside (its-row m w .node-words) ⇒ 2 ∷ at-line (its-row m w .line) w
+    refusals (Call.abandon w) =
+        header-damage ∷ (m workers ≤ w) ⇒ 3 ∷ Outside (words-of-worker m w) ⇒ 2 ∷ (m (phase w) ≡ 0) ⇒ 5 ∷ Outside (its-row m w .when-abandoned) ⇒ 2 ∷ []
 
 abbrev pub refusals-of : List ℕ → Call → List Refusal
 refusals-of ws = refusals (cells-of ws) (length ws)

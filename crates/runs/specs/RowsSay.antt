@@ -14,14 +14,14 @@ use Rattle.definitions.specs.Cells.{Cells, workers, items-limit, nodes-limit, p
     old, new, handle, noted, node, new-node, seen, birth, value, older}
 use Rattle.definitions.specs.Answers.{Outcome}
 use Rattle.definitions.specs.Phases.{row, row-of, table}
-use Rattle.definitions.specs.Damage.{any-of, sizes-outside, header-damaged-at, arguments-damaged, kept-damaged, running-damaged, too-many-steps, before-step,
+use Rattle.definitions.specs.Damage.{any-of, keeps-new-node, sizes-outside, header-damaged-at, arguments-damaged, kept-damaged, running-damaged, too-many-steps, before-step,
     inside-item, item-damaged, value-damaged, older-damaged, stamp-damaged, node-damaged}
 use Rattle.definitions.specs.Lines.{Line, line, no-node, succeeds-22, succeeds-46, counter-full, succeeds-6, too-new, no-words, taken-node, returned-node,
     tested-node, fetch-head, line-20, line-21, line-22, line-39, line-43, line-45, line-46, line-48, line-50, line-52, line-5, line-6, line-34, total-32, total-34,
     closing, lines, line-of-phase}
 use Rattle.runs.specs.UsedWords.{_to_, below, at-most, Use, _∈_, Outside, Row, sizes, value-range, item-range, handle-range, link-range, within-limits,
     header-words, words-of-item, words-of-node, first-given-back, node-taken, the-node, both-nodes, read-at-21, the-new-node, its-stamp, its-value, tested,
-    given-back-at-50, step-count, inside, outside-items, v-cas, total-arguments, rows}
+    given-back-at-50, step-count, inside, outside-items, holding, v-cas, total-arguments, rows}
 use Rattle.runs.specs.RefusalsInOrder.{Refusal, refuses, Follows, words-needed, No-node, ends-with, at-line}
 use Rattle.runs.specs.TestsSay.{Says, says-else, says-or, says-and, says-not, says-as, says-<, says-≤, says-≡, says-itself, outside, place-inside, older-there,
     Match, none, by, both, skip, test, Exactly, exactly-as, all-tested, joined, further, unless-so}
@@ -139,6 +139,7 @@ module _ (m : Cells) (w : ℕ) where
     pub of-item : Exactly (inside-item r && item-damaged m (m (item w))) (u .item-words)
     pub of-nodes : Exactly (l .damaged m w) (u .node-words)
     pub ending : Follows (at-line m (u .line) w) (l .does m w .answer)
+    pub abandoned : Exactly (keeps-new-node r && returned-node m w) (u .when-abandoned)
 
   -- a line other than 45 and 5
   quiet : (k : ℕ) (o : Outcome) → (k ≡ 45 → ⊥) → (k ≡ 5 → ⊥) → Unrefused o → Follows (at-line m k w) (o .answer)
@@ -207,10 +208,13 @@ module _ (m : Cells) (w : ℕ) where
   steps-say : Exactly (too-many-steps m w || false) (step-count m w)
   steps-say = all-tested (test (skip none))
 
-  agrees : {r : PhaseRow} {l : Line} {o : ℕ} {us ks ns : List Use} → plain r ≡ true → Exactly (arguments-damaged r m w) us → Exactly (kept-damaged r m w) ks
-      → Exactly (l .damaged m w) ns → Unrefused (l .does m w) → Agrees r l (inside m w o (r .line) us ks ns)
+  -- with the words of nodes that an abandon uses
+  agrees-with : {r : PhaseRow} {l : Line} {o : ℕ} {us ks ns hs : List Use} → plain r ≡ true → Exactly (keeps-new-node r && returned-node m w) hs
+      → Exactly (arguments-damaged r m w) us → Exactly (kept-damaged r m w) ks → Exactly (l .damaged m w) ns → Unrefused (l .does m w)
+      → Agrees r l (record { operation = o; line = r .line; in-record = us ++ ks; before-a-step = step-count m w; item-words = words-of-item m (m (item w));
+          node-words = ns; when-abandoned = hs })
   unfolding running-damaged
-  agrees {r = r} {l = l} e as′ ks ns h =
+  agrees-with {r = r} {l = l} e held as′ ks ns h =
       let p = plain-says r .passes e in
       let not-6 = ne-eqb (r .line) 6 (λ x. p .1 (inl x)) in
       record {
@@ -218,7 +222,17 @@ module _ (m : Cells) (w : ℕ) where
         before = exactly-as (ap (λ (b : Bool). too-many-steps m w || (b && leb (m counter-limit) (m (seen w)))) (sym not-6)) steps-say;
         of-item = exactly-as (ap (λ (b : Bool). b && item-damaged m (m (item w))) (sym (p .0))) (item-says m (m (item w)));
         of-nodes = ns;
-        ending = quiet (r .line) (l .does m w) (λ x. p .1 (inr (inl x))) (λ x. p .1 (inr (inr x))) h }
+        ending = quiet (r .line) (l .does m w) (λ x. p .1 (inr (inl x))) (λ x. p .1 (inr (inr x))) h;
+        abandoned = held }
+
+  -- a row that holds no node, and one that does
+  agrees : {r : PhaseRow} {l : Line} {o : ℕ} {us ks ns : List Use} → plain r ≡ true → keeps-new-node r ≡ false → Exactly (arguments-damaged r m w) us
+      → Exactly (kept-damaged r m w) ks → Exactly (l .damaged m w) ns → Unrefused (l .does m w) → Agrees r l (inside m w o (r .line) us ks ns)
+  agrees e d as′ ks ns h = agrees-with e (exactly-as (ap (λ (b : Bool). b && returned-node m w) (sym d)) nothing) as′ ks ns h
+
+  holds : {r : PhaseRow} {l : Line} {o : ℕ} {us ks ns : List Use} → plain r ≡ true → keeps-new-node r ≡ true → Exactly (arguments-damaged r m w) us
+      → Exactly (kept-damaged r m w) ks → Exactly (l .damaged m w) ns → Unrefused (l .does m w) → Agrees r l (holding m w (inside m w o (r .line) us ks ns))
+  holds e d as′ ks ns h = agrees-with e (exactly-as (ap (λ (b : Bool). b && returned-node m w) (sym d)) link-says) as′ ks ns h
 
   at-45 : Agrees (row 2 45 false) (line taken-node line-45) (v-cas m w 45 (the-node m w) (node-taken m (m given-back)))
   unfolding running-damaged arguments-damaged kept-damaged line-45
@@ -230,7 +244,8 @@ module _ (m : Cells) (w : ℕ) where
         of-nodes = taken-says m (m given-back);
         ending =
           follow (ends-with m 11 w ((45 ≡ 45) × No-node m)) (ends-with m 12 w ((45 ≡ 5) × (m counter-limit ≤ m counter)) ∷ []) (no-node m) _ _
-            (says-as (λ n. (refl, n)) (λ x. x .1) (says-and (says-≡ _ _) (says-≤ _ _))) refl (λ f. inr (λ x. eqb-false 45 5 refl (x .0), runs-on)) }
+            (says-as (λ n. (refl, n)) (λ x. x .1) (says-and (says-≡ _ _) (says-≤ _ _))) refl (λ f. inr (λ x. eqb-false 45 5 refl (x .0), runs-on));
+        abandoned = nothing }
 
   at-5 : Agrees (row 3 5 false) (line no-words line-5) (outside-items m w 3 5 [] (step-count m w))
   unfolding running-damaged arguments-damaged kept-damaged line-5
@@ -243,7 +258,8 @@ module _ (m : Cells) (w : ℕ) where
         ending =
           inr (λ x. eqb-false 5 45 refl (x .0),
             follow (ends-with m 12 w ((5 ≡ 5) × (m counter-limit ≤ m counter))) [] (counter-full m) _ _
-              (says-as (λ h. (refl, h)) (λ x. x .1) (says-≤ _ _)) refl (λ f. runs-on)) }
+              (says-as (λ h. (refl, h)) (λ x. x .1) (says-≤ _ _)) refl (λ f. runs-on));
+        abandoned = nothing }
 
   at-6 : Agrees (row 3 6 true) (line no-words line-6) (outside-items m w 3 6 [] (step-count m w ++ (m (seen w) ∈ below (m counter-limit) ∷ [])))
   unfolding running-damaged arguments-damaged kept-damaged
@@ -253,7 +269,7 @@ module _ (m : Cells) (w : ℕ) where
         before = all-tested (test (test none));
         of-item = nothing;
         of-nodes = nothing;
-        ending = quiet 6 (line-6 m w) (eqb-false 6 45 refl) (eqb-false 6 5 refl) does-6 }
+        ending = quiet 6 (line-6 m w) (eqb-false 6 45 refl) (eqb-false 6 5 refl) does-6; abandoned = nothing }
 
   at-closing : Agrees (row 5 0 true) (line no-words closing) (outside-items m w 5 0 (total-arguments m w (at-most (m (noted w)))) (step-count m w))
   unfolding running-damaged arguments-damaged kept-damaged
@@ -263,7 +279,7 @@ module _ (m : Cells) (w : ℕ) where
         before = steps-say;
         of-item = nothing;
         of-nodes = nothing;
-        ending = quiet 0 (closing m w) (eqb-false 0 45 refl) (eqb-false 0 5 refl) closes }
+        ending = quiet 0 (closing m w) (eqb-false 0 45 refl) (eqb-false 0 5 refl) closes; abandoned = nothing }
 
   -- the table of phases, the lines and the rows, in step
   abbrev In-step : List PhaseRow → List Line → List Row → Type 0
@@ -284,44 +300,44 @@ module _ (m : Cells) (w : ℕ) where
   unfolding table lines rows arguments-damaged kept-damaged
   in-step =
       -- vRead
-      (agrees refl in-v-read nothing nothing fetches,
-      (agrees refl in-v-read node-kept stamp-says does-20,
-      (agrees refl in-v-read node-kept nothing does-21,
-      (agrees refl in-v-read number-kept stamp-says does-22,
-      (agrees refl in-v-read node-kept value-says does-39,
+      (agrees refl refl in-v-read nothing nothing fetches,
+      (agrees refl refl in-v-read node-kept stamp-says does-20,
+      (agrees refl refl in-v-read node-kept nothing does-21,
+      (agrees refl refl in-v-read number-kept stamp-says does-22,
+      (agrees refl refl in-v-read node-kept value-says does-39,
       -- vCAS
-      (agrees refl in-v-cas nothing nothing fetches,
-      (agrees refl in-v-cas node-kept stamp-says does-20,
-      (agrees refl in-v-cas node-kept nothing does-21,
-      (agrees refl in-v-cas number-kept stamp-says does-22,
-      (agrees refl in-v-cas node-kept value-says does-43,
+      (agrees refl refl in-v-cas nothing nothing fetches,
+      (agrees refl refl in-v-cas node-kept stamp-says does-20,
+      (agrees refl refl in-v-cas node-kept nothing does-21,
+      (agrees refl refl in-v-cas number-kept stamp-says does-22,
+      (agrees refl refl in-v-cas node-kept value-says does-43,
       (at-45,
-      (agrees refl in-v-cas both-nodes-kept nothing does-46,
-      (agrees refl in-v-cas node-kept stamp-says does-20,
-      (agrees refl in-v-cas node-kept nothing does-21,
-      (agrees refl in-v-cas number-kept stamp-says does-22,
-      (agrees refl in-v-cas nothing nothing does-48,
-      (agrees refl in-v-cas new-node-kept link-says does-50,
-      (agrees refl in-v-cas nothing nothing fetches,
-      (agrees refl in-v-cas node-kept stamp-says does-20,
-      (agrees refl in-v-cas node-kept nothing does-21,
-      (agrees refl in-v-cas number-kept stamp-says does-22,
-      (agrees refl in-v-cas nothing nothing does-52,
+      (holds refl refl in-v-cas both-nodes-kept nothing does-46,
+      (agrees refl refl in-v-cas node-kept stamp-says does-20,
+      (agrees refl refl in-v-cas node-kept nothing does-21,
+      (agrees refl refl in-v-cas number-kept stamp-says does-22,
+      (agrees refl refl in-v-cas nothing nothing does-48,
+      (holds refl refl in-v-cas new-node-kept link-says does-50,
+      (agrees refl refl in-v-cas nothing nothing fetches,
+      (agrees refl refl in-v-cas node-kept stamp-says does-20,
+      (agrees refl refl in-v-cas node-kept nothing does-21,
+      (agrees refl refl in-v-cas number-kept stamp-says does-22,
+      (agrees refl refl in-v-cas nothing nothing does-52,
       -- takeSnapshot
       (at-5,
       (at-6,
       -- readSnapshot
-      (agrees refl in-read-snapshot nothing nothing fetches,
-      (agrees refl in-read-snapshot node-kept stamp-says does-20,
-      (agrees refl in-read-snapshot node-kept nothing does-21,
-      (agrees refl in-read-snapshot number-kept stamp-says does-22,
-      (agrees refl in-read-snapshot node-kept tested-says does-34,
+      (agrees refl refl in-read-snapshot nothing nothing fetches,
+      (agrees refl refl in-read-snapshot node-kept stamp-says does-20,
+      (agrees refl refl in-read-snapshot node-kept nothing does-21,
+      (agrees refl refl in-read-snapshot number-kept stamp-says does-22,
+      (agrees refl refl in-read-snapshot node-kept tested-says does-34,
       -- total
-      (agrees refl in-total nothing nothing total-does-32,
-      (agrees refl in-total node-kept stamp-says does-20,
-      (agrees refl in-total node-kept nothing does-21,
-      (agrees refl in-total number-kept stamp-says does-22,
-      (agrees refl in-total node-kept tested-says total-does-34,
+      (agrees refl refl in-total nothing nothing total-does-32,
+      (agrees refl refl in-total node-kept stamp-says does-20,
+      (agrees refl refl in-total node-kept nothing does-21,
+      (agrees refl refl in-total number-kept stamp-says does-22,
+      (agrees refl refl in-total node-kept tested-says total-does-34,
       (at-closing, tt)))))))))))))))))))))))))))))))))))
 
   -- ---- at any known phase. An idle record uses no word but its phase

@@ -1,5 +1,5 @@
--- Document 01's paragraph **Damaged**, said from the other side: the ranges, and the words that each call and each phase uses. Only the cells' names are taken
--- from the definitions, none of their tests (Damage, Lines). RefusalsInOrder puts it into the order of refusals, and DamagedExactly proves that every answer
+-- Document 01's paragraph **Damaged**, said from the other side: the ranges, and the words that each call, document 02's abandon among them, and each phase
+-- uses. Only the cells' names are taken from the definitions, none of their tests (Damage, Lines). RefusalsInOrder puts it into the order of refusals, and DamagedExactly proves that every answer
 -- follows it, on any words. So a test could be left out of the definitions only with its word here, where a reader sees it missing.
 use Prim.Native.Nat.{ℕ, zero, suc, _+_, _*_, _≤_, _<_}
 use mathlib.Core.Bool.{cond}
@@ -38,7 +38,7 @@ Outside [] = ⊥
 Outside (x ∈ r ∷ us) = (Within r x → ⊥) ⊎ Outside us
 
 -- A row of the table of phases: its operation and line; the words of the worker's record that every call uses, and those that a step uses besides; and the
--- words of the operation's item and of nodes that a step uses.
+-- words of the operation's item and of nodes that a step uses, and those of nodes that an abandon uses.
 pub record Row : Type 0 where
   pub operation : ℕ
   pub line : ℕ
@@ -46,6 +46,7 @@ pub record Row : Type 0 where
   pub before-a-step : List Use
   pub item-words : List Use
   pub node-words : List Use
+  pub when-abandoned : List Use
 
 -- ---- header, items and nodes, where the cells hold m
 
@@ -119,9 +120,15 @@ module _ (m : Cells) where
     step-count = m (steps w) ∈ below 5121 ∷ []
     abbrev pub inside : (operation line : ℕ) (arguments kept node-words : List Use) → Row
     inside o l us ks ns =
-        record { operation = o; line = l; in-record = us ++ ks; before-a-step = step-count; item-words = words-of-item (m (item w)); node-words = ns }
+        record { operation = o; line = l; in-record = us ++ ks; before-a-step = step-count; item-words = words-of-item (m (item w)); node-words = ns;
+            when-abandoned = [] }
     abbrev pub outside-items : (operation line : ℕ) (in-record before-a-step : List Use) → Row
-    outside-items o l us bs = record { operation = o; line = l; in-record = us; before-a-step = bs; item-words = []; node-words = [] }
+    outside-items o l us bs = record { operation = o; line = l; in-record = us; before-a-step = bs; item-words = []; node-words = []; when-abandoned = [] }
+    -- a node taken at 45 is held, and goes back as line 50 returns it where its worker is abandoned
+    abbrev pub holding : Row → Row
+    holding u =
+        record { operation = u .operation; line = u .line; in-record = u .in-record; before-a-step = u .before-a-step; item-words = u .item-words;
+            node-words = u .node-words; when-abandoned = given-back-at-50 }
 
     -- an operation's arguments, at each of its phases
     abbrev pub v-read : (line : ℕ) (kept node-words : List Use) → Row
@@ -153,12 +160,12 @@ module _ (m : Cells) where
         ∷ v-cas 22 read-at-21 its-stamp -- 9
         ∷ v-cas 43 the-node its-value -- 10
         ∷ v-cas 45 the-node (node-taken (m given-back)) -- 11
-        ∷ v-cas 46 both-nodes [] -- 12
+        ∷ holding (v-cas 46 both-nodes []) -- 12
         ∷ v-cas 20 the-node its-stamp -- 13
         ∷ v-cas 21 the-node [] -- 14
         ∷ v-cas 22 read-at-21 its-stamp -- 15
         ∷ v-cas 48 [] [] -- 16
-        ∷ v-cas 50 the-new-node given-back-at-50 -- 17
+        ∷ holding (v-cas 50 the-new-node given-back-at-50) -- 17
         ∷ v-cas 51 [] [] -- 18
         ∷ v-cas 20 the-node its-stamp -- 19
         ∷ v-cas 21 the-node [] -- 20

@@ -1,8 +1,10 @@
 // One call, on the code and on the model: logged, made twice, counted, compared.
 use tally::draws::size_of;
 use tally::frames;
-use tally::frames::Call;
-use tally::notes::{count, get, lower, move_place, place, put, raise, CATALOGUES, COMPARED, DIFFER, FIRST_AT, LIFE, LONGEST, PHASES, REFUSALS};
+use tally::frames::{Call, ABANDON};
+use tally::notes::{
+    count, get, lower, move_place, place, put, raise, ABANDONED, ABANDONS, CATALOGUES, COMPARED, DIFFER, FIRST_AT, LIFE, LONGEST, PHASES, REFUSALS,
+};
 use definitions::Answer;
 use model::setup::Reply;
 use tables::fields::{HEADER_WORDS, PHASE, WORKER_WORDS};
@@ -20,7 +22,8 @@ fn code_says(words: &mut [u32], call: Call) -> Answer {
         5 => calls::start::start_take_snapshot(words, call.a),
         6 => calls::start::start_read_snapshot(words, call.a, call.b, call.c),
         7 => calls::start::start_total(words, call.a, call.b, call.c),
-        _ => steps::step(words, call.a),
+        8 => steps::step(words, call.a),
+        _ => abandon::abandon(words, call.a),
     }
 }
 
@@ -33,7 +36,7 @@ fn code_answers(words: &mut [u32], call: Call) -> Answer {
     code_says(words, call)
 }
 
-fn model_starts(memory: &mut [usize], call: Call, lent: usize, worker: usize) -> Reply {
+fn model_works(memory: &mut [usize], call: Call, lent: usize, worker: usize) -> Reply {
     let operation = call.operation;
     match operation {
         3 => model_operations::starts::v_read(memory, lent, worker, size_of(call.b)),
@@ -41,7 +44,8 @@ fn model_starts(memory: &mut [usize], call: Call, lent: usize, worker: usize) ->
         5 => model_operations::starts::take_snapshot(memory, lent, worker),
         6 => model_operations::starts::read_snapshot(memory, lent, worker, size_of(call.b), size_of(call.c)),
         7 => model_operations::starts::total(memory, lent, worker, size_of(call.b), size_of(call.c)),
-        _ => model_operations::stepping::step(memory, lent, worker),
+        8 => model_operations::stepping::step(memory, lent, worker),
+        _ => model_operations::abandons::abandon(memory, lent, worker),
     }
 }
 
@@ -52,7 +56,7 @@ fn model_answers(memory: &mut [usize], call: Call) -> Reply {
     match operation {
         1 => model::setup::make(memory, lent, first, size_of(call.b), size_of(call.c), size_of(call.d), size_of(call.e)),
         2 => model::setup::register(memory, lent, first, size_of(call.b)),
-        _ => model_starts(memory, call, lent, first),
+        _ => model_works(memory, call, lent, first),
     }
 }
 
@@ -65,7 +69,7 @@ fn agree(answer: Answer, reply: Reply) -> bool
     (code == reply.code) & (answer.value == reply.value as u64) & (steps == reply.steps)
 }
 
-// The phase of the worker that a start or a step names.
+// The phase of the worker that a start, a step or an abandon names.
 fn phase_of(words: &[u32], worker: u32) -> u32 {
     if worker < 64 {
         let at = HEADER_WORDS + WORKER_WORDS * (worker as usize) + PHASE;
@@ -76,7 +80,13 @@ fn phase_of(words: &[u32], worker: u32) -> u32 {
     0
 }
 
-// A start that was accepted, or a step that advanced an operation, took the worker from a phase to a phase.
+// A worker that was in an operation is idle.
+fn note_abandon(tally: &mut [u64], before: u32) {
+    count(tally, ABANDONS);
+    count(tally, place(ABANDONED, before, 36));
+}
+
+// A start that was accepted, or a step that advanced an operation, took the worker from a phase to a phase. An abandon is counted apart.
 fn note_move(tally: &mut [u64], call: Call, answer: Answer, before: u32, after: u32) {
     if call.operation < 3 {
         return;
@@ -85,6 +95,10 @@ fn note_move(tally: &mut [u64], call: Call, answer: Answer, before: u32, after: 
         if answer.steps == 0 {
             return;
         }
+    }
+    if call.operation == ABANDON {
+        note_abandon(tally, before);
+        return;
     }
     count(tally, move_place(before, after));
     count(tally, place(PHASES, after, 36));

@@ -1,14 +1,16 @@
 // Which calls are made. A round draws a worker, starts an operation where it rests and steps it where it does not; now
 // and then an item is registered, a call is made that may be refused for several reasons, or a new catalogue is made.
-use tally::frames::{call_of, make_of, Call};
+// In half of the catalogues workers are abandoned now and then; in the others long operations come to their end, and frames can say the calls.
+use tally::frames::{call_of, make_of, Call, ABANDON};
 use tally::draws::{among, draw, from_one, low, more, narrow, once_in, wide, wide_draw};
 use crate::longest;
-use tally::notes::{get as noted, lower, put as note, LIFE, LOGGED, WAITING, WIDE};
+use tally::notes::{get as noted, lower, put as note, LIFE, LOGGED, WAITING, WIDE, WITH_ABANDONS};
 use model::memory::{get, less_one, present_value, COUNTER, ITEMS, NEEDED, PROJECTS, WORKERS};
+use model_operations::abandons::holds_node;
 use model_operations::starts::is_resting;
 
 // Calls before any make.
-const EARLY: u64 = 8;
+const EARLY: u64 = 9;
 
 // A limit of the present catalogue, and some more for a call that may be refused.
 fn limit(memory: &[usize], which: usize, slack: u32) -> u32 {
@@ -41,8 +43,9 @@ fn is_wide(style: u32) -> u64 {
 }
 
 // The log starts anew with a catalogue.
-fn note_catalogue(tally: &mut [u64], whether_wide: u64, life: u64, waiting: u64) {
+fn note_catalogue(tally: &mut [u64], whether_wide: u64, with_abandons: u64, life: u64, waiting: u64) {
     note(tally, WIDE, whether_wide);
+    note(tally, WITH_ABANDONS, with_abandons);
     note(tally, LOGGED, 0);
     note(tally, LIFE, life);
     note(tally, WAITING, waiting);
@@ -64,7 +67,8 @@ fn new_catalogue(tally: &mut [u64]) -> Call {
     let make = make_by_style(tally, style);
     let life = by_style(tally, style, 16000, 600, 900);
     let waiting = among(tally, more(make.b, 1));
-    note_catalogue(tally, is_wide(style), wide(life), wide(waiting));
+    let with_abandons = among(tally, 2);
+    note_catalogue(tally, is_wide(style), wide(with_abandons), wide(life), wide(waiting));
     make
 }
 
@@ -137,8 +141,21 @@ fn beyond_frames(which: u32, worker: u32, needed: usize) -> Call {
         2 => lent(call_of(5, worker, 0, 0, 0), 15),
         3 => lent(make_of(1, 1, 1, 1, 1), 38),
         4 => make_of(1, 1, 1, 1, 4294967295),
+        5 => lent(call_of(ABANDON, worker, 0, 0, 0), needed),
+        6 => lent(call_of(ABANDON, worker, 0, 0, 0), less_one(needed)),
         _ => lent(call_of(2, 0, 1, 0, 0), 38),
     }
+}
+
+// A step; in a catalogue with abandons, one time in some, an abandon.
+fn step_or_abandon(tally: &mut [u64], worker: u32, some: u32) -> Call {
+    if noted(tally, WITH_ABANDONS) == 0 {
+        return call_of(8, worker, 0, 0, 0);
+    }
+    if once_in(tally, some) {
+        return call_of(ABANDON, worker, 0, 0, 0);
+    }
+    call_of(8, worker, 0, 0, 0)
 }
 
 // A call that may be refused, for one reason or for several.
@@ -152,23 +169,31 @@ fn odd_call(memory: &[usize], tally: &mut [u64]) -> Call {
         return registering(memory, tally, 2);
     }
     if which < 6 {
-        return call_of(8, worker, 0, 0, 0);
+        return step_or_abandon(tally, worker, 2);
     }
     if which < 8 {
         if noted(tally, WIDE) == 1 {
-            return beyond_frames(among(tally, 6), worker, get(memory, NEEDED));
+            return beyond_frames(among(tally, 8), worker, get(memory, NEEDED));
         }
     }
     starting(memory, tally, worker, 2)
 }
 
-// The worker drawn as document 01 says: a start where it rests, a step where it does not.
+// A worker is abandoned more often where that gives a node back.
+fn odds_of_abandon(memory: &[usize], worker: u32) -> u32 {
+    if holds_node(memory, worker as usize) {
+        return 4;
+    }
+    32
+}
+
+// The worker drawn as document 01 says: a start where it rests; where it does not a step, or an abandon.
 fn turn(memory: &[usize], tally: &mut [u64]) -> Call {
     let worker = among(tally, limit(memory, WORKERS, 0));
     if is_resting(memory, worker as usize) {
         return starting(memory, tally, worker, 0);
     }
-    call_of(8, worker, 0, 0, 0)
+    step_or_abandon(tally, worker, odds_of_abandon(memory, worker))
 }
 
 // A round's call.
@@ -201,7 +226,7 @@ fn early_call(number: u32) -> Call {
 // The longest total's first call starts the log anew.
 fn note_first(tally: &mut [u64], number: u32) {
     if number == 0 {
-        note_catalogue(tally, 0, 60000, 0);
+        note_catalogue(tally, 0, 0, 60000, 0);
     }
 }
 
@@ -221,5 +246,5 @@ pub fn call_at(memory: &[usize], tally: &mut [u64], rounds: u64, left: u64) -> C
     if rest < rounds {
         return drawn_call(memory, tally);
     }
-    early_call(low(rest - rounds) % 8)
+    early_call(low(rest - rounds) % 9)
 }

@@ -69,8 +69,8 @@ pub fn sum_of(high: u32, low: u32) -> u64
     (high as u64) * 4294967296 + (low as u64)
 }
 
-// A total's arguments, in the order of definitions/specs/Damage.antt.
-fn total_is_damaged(words: &[u32], w: usize, row: PhaseRow) -> bool
+// A total's arguments, in the order of definitions/specs/Damage.antt. Abandon asks this too, by a row of its own.
+pub fn total_is_damaged(words: &[u32], w: usize, row: PhaseRow) -> bool
     requires { ⌜ 16 + 16 * w + 16 ≤ length (now words) ⌝ }
     ensures { λ r. ⌜ ((a b : ℕ) → r ≡ any-of (total-tests row (cells-at a b (now (words .entry))) w)) ⌝ }
 {
@@ -213,7 +213,7 @@ pub fn node_is_damaged(nodes: &[u32], n: usize, projects: u32, used: u32, counte
     (projects <= nodes[NODE_WORDS * n + VALUE]) | (used < nodes[NODE_WORDS * n + OLDER]) | ((counter < stamp) & (stamp != TBD))
 }
 
-// The first node given back, where one waits: register and line 50 ask this, and line 45 of the node that it takes.
+// The first node given back, where one waits: register, line 50 and an abandon that gives a node back ask this, and line 45 of the node that it takes.
 pub fn first_is_damaged(words: &[u32], nodes_at: usize) -> bool
     requires { ⌜ (16 ≤ «nodes_at») × («nodes_at» + node-words * getD (now words) 2 0 ≤ length (now words)) × (getD (now words) 7 0 ≤ getD (now words) 2 0) × (getD (now words) 8 0 ≤ getD (now words) 7 0) ⌝ }
     ensures { λ r. ⌜ ((a : ℕ) → r ≡ first-damaged (cells-at a «nodes_at» (now (words .entry)))) ⌝ }

@@ -3,7 +3,10 @@ use crate::draws::{low, wide};
 use crate::notes::{count, get, LOGGED};
 use libc::STDOUT_FILENO;
 
-// A call by its frame's operation, 1 to 8, and its arguments, with how many words are lent to it.
+// An abandon stands among the operations, though the schedule program has no frame for it.
+pub const ABANDON: u32 = 9;
+
+// A call by its frame's operation, 1 to 8, or as an abandon, and its arguments, with how many words are lent to it.
 pub struct Call {
     pub operation: u32,
     pub a: u32,
@@ -94,11 +97,19 @@ fn show_arguments(log: &[u32], number: u64, some: usize) {
     }
 }
 
-// A frame; what no frame can say, fewer words lent than the schedule program lends, stands behind it.
+fn show_operation(operation: u32) {
+    if operation == ABANDON {
+        io::write_all(STDOUT_FILENO, b"abandon ");
+        return;
+    }
+    io::print_hex(STDOUT_FILENO, wide(operation), 2);
+}
+
+// A frame, or an abandon; what no frame can say, fewer words lent than the schedule program lends, stands behind it.
 fn show_frame(log: &[u32], number: u64) {
     let first = kept(log, entry(number, 0));
     let operation = first % 16;
-    io::print_hex(STDOUT_FILENO, wide(operation), 2);
+    show_operation(operation);
     show_arguments(log, number, numbers_of(operation));
     if first / 16 < 16384 {
         io::write_all(STDOUT_FILENO, b" words lent: ");

@@ -1,7 +1,7 @@
 // What a run prints: the counts.
 use crate::draws::wide;
 use crate::notes::{
-    get, move_place, place, CATALOGUES, COMPARED, DIFFER, FIRST_AT, LONGEST, MOVES, PHASES, REFUSALS, ROUNDS, SEED,
+    get, move_place, place, ABANDONED, ABANDONS, CATALOGUES, COMPARED, DIFFER, FIRST_AT, LONGEST, MOVES, PHASES, REFUSALS, ROUNDS, SEED,
 };
 use libc::{STDERR_FILENO, STDOUT_FILENO};
 use std::num::{wrapping_add_u64, wrapping_add_usize};
@@ -127,6 +127,8 @@ fn coverage(tally: &[u64]) {
     line(b"moves met, of the 56 that there are: ", moves_met(tally));
     line(b"moves met, of all pairs of phases: ", counted(tally, MOVES, 1296));
     line(b"refusals met, of 12: ", counted(tally, REFUSALS, 16));
+    line(b"workers abandoned: ", get(tally, ABANDONS));
+    line(b"phases at which one was, of 35: ", counted(tally, ABANDONED, 36));
 }
 
 // The report; where its end can't be written, a word on standard error says so.
@@ -136,6 +138,7 @@ pub fn report(tally: &[u64]) {
     longest(tally);
     rows(tally, b"refusal ", REFUSALS, 1, 13);
     rows(tally, b"phase ", PHASES, 0, 36);
+    rows(tally, b"abandoned at phase ", ABANDONED, 1, 36);
     moves(tally);
     let is_written = io::write_all(STDOUT_FILENO, b"end of the report\n");
     if !is_written {

@@ -8,9 +8,9 @@ use lib.ListN.{length, getD, replicate, drop}
 use Rattle.definitions.specs.Answers.{Outcome, refusal, accepted, unless, _⇒_}
 use Rattle.definitions.specs.Cells.{Cells, cells-of, needed}
 use Rattle.definitions.specs.Damage.{any-of, sizes-outside, header-damaged, header-damaged-at}
-use Rattle.definitions.specs.Calls.{Call, make, register, v-read, v-cas, take-snapshot, read-snapshot, total, step}
+use Rattle.definitions.specs.Calls.{Call, make, register, v-read, v-cas, take-snapshot, read-snapshot, total, step, abandon}
 use Rattle.definitions.specs.Calls.{Result, outcome, making, leaving, on-catalogue, fresh, registering, starting-v-read, starting-v-cas}
-use Rattle.definitions.specs.Calls.{starting-take-snapshot, starting-read-snapshot, starting-total, stepping}
+use Rattle.definitions.specs.Calls.{starting-take-snapshot, starting-read-snapshot, starting-total, stepping, abandoning}
 
 abbrev zeros : ℕ → List ℕ
 zeros n = replicate n 0
@@ -42,6 +42,7 @@ is-make (take-snapshot w) = false
 is-make (read-snapshot w i h) = false
 is-make (total w q h) = false
 is-make (step w) = false
+is-make (abandon w) = false
 
 pub before-any-make : (n : ℕ) (k : Call) → is-make k ≡ false → outcome (zeros n) k ≡ damaged-answer (zeros n)
 unfolding outcome
@@ -53,6 +54,7 @@ before-any-make n (take-snapshot w) h = refused-on-zeros n (λ m. starting-take-
 before-any-make n (read-snapshot w i k) h = refused-on-zeros n (λ m. starting-read-snapshot m w i k)
 before-any-make n (total w q k) h = refused-on-zeros n (λ m. starting-total m w q k)
 before-any-make n (step w) h = refused-on-zeros n (λ m. stepping m w)
+before-any-make n (abandon w) h = refused-on-zeros n (λ m. abandoning m w)
 
 -- a make that is not accepted leaves every word, whatever they hold
 pub refused-make : (ws : List ℕ) (p m n q c : ℕ) → (outcome ws (make p m n q c) .answer .code ≡ 2 → ⊥)
@@ -78,3 +80,4 @@ until-made n (take-snapshot w) h = ap (λ (r : Result). r .words) (before-any-ma
 until-made n (read-snapshot w i k) h = ap (λ (r : Result). r .words) (before-any-make n (read-snapshot w i k) refl)
 until-made n (total w q k) h = ap (λ (r : Result). r .words) (before-any-make n (total w q k) refl)
 until-made n (step w) h = ap (λ (r : Result). r .words) (before-any-make n (step w) refl)
+until-made n (abandon w) h = ap (λ (r : Result). r .words) (before-any-make n (abandon w) refl)

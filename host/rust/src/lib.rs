@@ -20,6 +20,7 @@ mod ffi {
         pub fn goravesha_start_read_snapshot(words: *mut u32, count: usize, worker: u32, item: u32, handle: u32, answer: *mut Numbers) -> u32;
         pub fn goravesha_start_total(words: *mut u32, count: usize, worker: u32, project: u32, handle: u32, answer: *mut Numbers) -> u32;
         pub fn goravesha_step(words: *mut u32, count: usize, worker: u32, answer: *mut Numbers) -> u32;
+        pub fn goravesha_abandon(words: *mut u32, count: usize, worker: u32, answer: *mut Numbers) -> u32;
     }
 }
 
@@ -131,6 +132,13 @@ impl<'w> Catalogue<'w> {
                 return Ok((value, steps));
             }
         }
+    }
+
+    /// Abandons a worker's operation, where whoever stepped it has ended: the worker is idle at once, and there is no answer. A change that it has published
+    /// takes effect once, by whichever operation stamps its node, before this call or after it; any other operation never takes effect. After an abandoned
+    /// vCAS, read the item's present project and decide anew. Refused as [`Reason::WorkerIdle`] where the worker is in no operation.
+    pub fn abandon(&mut self, worker: u32) -> Result<(), Refused> {
+        self.call(|w, n, a| unsafe { ffi::goravesha_abandon(w, n, worker, a) }).map(|_| ())
     }
 
     // Safe: the pointer and the count are those of an exclusive slice, and the answer's numbers are apart from it.

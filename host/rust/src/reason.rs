@@ -12,7 +12,7 @@ pub enum Reason {
     NoSuchWorker,
     /// 4, start: the worker is in an operation.
     WorkerBusy,
-    /// 5, step: the worker is idle.
+    /// 5, step, abandon: the worker is idle.
     WorkerIdle,
     /// 6: the item number is not registered.
     NotRegistered,
@@ -39,8 +39,8 @@ const REASONS: [(Reason, &str); 13] = [
     (Reason::BadSize, "A size is outside its range, or too few words are lent; see goravesha_make and GORAVESHA_WORDS."),
     (Reason::Damaged, "The words are damaged, too few or hold no catalogue; make a new one and look for what wrote into them."),
     (Reason::NoSuchWorker, "There is no worker of this number; they are numbered from 0 to P - 1."),
-    (Reason::WorkerBusy, "The worker is in an operation; step it to its end first."),
-    (Reason::WorkerIdle, "The worker is idle; start an operation first."),
+    (Reason::WorkerBusy, "The worker is in an operation; step it to its end first, or abandon it, if whoever stepped it has died."),
+    (Reason::WorkerIdle, "The worker is idle; there is no operation to step or to abandon."),
     (Reason::NotRegistered, "No item of this number is registered."),
     (Reason::NoSuchProject, "There is no project of this number; they are numbered from 0 to Q - 1, and 0 means unlinked."),
     (Reason::NoSuchHandle, "No snapshot has this handle yet; take one first."),

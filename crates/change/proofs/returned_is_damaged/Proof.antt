@@ -64,19 +64,19 @@ shared-slice-read-if1 c = search needs
 
 -- src/lib.rt:75:9
 returns : tie.Need-returns
-returns c = let x = c .before .before .before .before .before .before .args in let ws = x .words .now in
+returns c = λ a. let x = c .before .before .before .before .before .before .args in let ws = x .words .now in
     let e = node-word ws (x .nodes-at) (getD ws (16 + 16 * x .w + 9) 0) 1 (c .before .before .word .ensures) in
     rw (← e, lt-ltb _ _ (c .if1 .taken))
 
 -- src/lib.rt:77:5
 first-is-damaged-requires : tie.Need-first-is-damaged-requires
-first-is-damaged-requires c κs = let r = c .before .before .before .before .before .before .pre .0 in (omega (arith, r .worker, r .items), r .nodes, r .used, r .given-back)
+first-is-damaged-requires c κs = let r = c .before .before .before .before .before .before .pre in (omega (arith, r .worker), r .nodes, r .used, r .given-back)
 
 -- src/lib.rt:67:1
 returns-2 : tie.Need-returns-2
-returns-2 c = let x = c .before .before .before .before .before .before .before .args in let ws = x .words .now in
+returns-2 c = λ a. let x = c .before .before .before .before .before .before .before .args in let ws = x .words .now in
     let e = node-word ws (x .nodes-at) (getD ws (16 + 16 * x .w + 9) 0) 1 (c .before .before .before .word .ensures) in
-    rw (← e, le-ltb _ _ (c .before .if1 .left)) (c .first-is-damaged .ensures (x .items-at))
+    rw (← e, le-ltb _ _ (c .before .if1 .left)) (c .first-is-damaged .ensures a)
 
 pub returned-is-damaged-spec : {M : Type 1} → statement M
 returned-is-damaged-spec =

@@ -19,7 +19,7 @@ use Rattle.calls.proofs.start.start_total.Statement.{statement}
 use Rattle.calls.proofs.start.start_total.Tie as tie
 use Rattle.calls.proofs.start.start_total.Reads as reads
 use Rattle.calls.proofs.start.start_total.Lts as lts
-use Rattle.calls.proofs.start.accept.Reads as accept-reads
+use Rattle.endings.proofs.accept.Reads as accept-reads
 use Rattle.calls.proofs.start.worker_refusal.Reads as worker-refusal-reads
 use Rattle.calls.proofs.start.is_held.Reads as is-held-reads
 use Rattle.endings.proofs.refuse.Reads as refuse-reads

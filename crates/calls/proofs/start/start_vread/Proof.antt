@@ -17,7 +17,7 @@ use Rattle.calls.proofs.start.start_vread.Statement.{statement}
 use Rattle.calls.proofs.start.start_vread.Tie as tie
 use Rattle.calls.proofs.start.start_vread.Reads as reads
 use Rattle.calls.proofs.start.start_vread.Lts as lts
-use Rattle.calls.proofs.start.accept.Reads as accept-reads
+use Rattle.endings.proofs.accept.Reads as accept-reads
 use Rattle.calls.proofs.start.item_refusal.Reads as item-refusal-reads
 use Rattle.calls.proofs.start.worker_refusal.Reads as worker-refusal-reads
 use Rattle.calls.proofs.start.is_held.Reads as is-held-reads
