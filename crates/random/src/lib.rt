@@ -1,4 +1,6 @@
 // Document 01's generator. The sum that wraps is supplied, the product that wraps is a proved helper of its own.
+#![tactic(auto)]
+
 ghost use Rattle.std.specs.Prelude.{◌≡◌, ◌*◌, ◌%◌};
 ghost use Rattle.random.specs.Generator.{next_of, draw_of, draw_among};
 
