@@ -2,6 +2,8 @@
 // how the paper's machine keeps it: for each item the history of its published versions, for each worker how many steps it
 // has done since it fetched a head, and one count of the nodes that are published or held.
 // Here are what it keeps, and make and register; the crate operations has the starts, the steps and abandon.
+#![tactic(auto)]
+
 pub mod history;
 pub mod memory;
 pub mod setup;
