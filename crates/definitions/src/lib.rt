@@ -1,5 +1,6 @@
 // The two plain types that the definitions of specs/ and the code share. There is no code here: the crates above it
 // cite these definitions in their contracts, and the theorems about the history need nothing else.
+#![tactic(auto)]
 
 // What a call answers, in document 01's numbers, and two later ones, 0 today. In this order it has no gaps: 24 bytes, as with three numbers.
 #[derive(Drop)]
@@ -12,7 +13,7 @@ pub struct Answer {
 }
 
 // One entry of the fixed table of phases.
-#[derive(Drop)]
+#[derive(Clone, Copy)]
 pub struct PhaseRow {
     pub operation: u8,
     pub line: u8,

@@ -1,6 +1,6 @@
 -- The node part of the words, and the one law that a write in the part is a write in the whole.
-use Rattle.std.specs.Prelude.{◌≡◌, refl, List, [], ◌∷◌, ◌++◌, ℕ, ◌+◌, ◌*◌, ◌-◌, ◌≤◌, length, get_or, set, take, drop}
-use Rattle.std.proofs.Common.{ap, sym, ◌∙◌, append-nil, arith, length-set, length-drop, drop_of_length-le, take-append-drop, le-add_right, get_or-drop, take_all}
+use Rattle.std.specs.Prelude.{◌≡◌, refl, List, [], ◌∷◌, ◌++◌, ℕ, ◌+◌, ◌-◌, length, get_or, set, take, drop}
+use Rattle.std.proofs.Common.{ap, sym, ◌∙◌, append-nil, arith, length-set, length-drop, drop_of_length-le, take-append-drop, get_or-drop, take_all}
 use Rattle.std.proofs.lemmas.List.{drop-set-add, take-set-le}
 
 -- Words stored one after the other, each at its place.

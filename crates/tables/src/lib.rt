@@ -1,4 +1,6 @@
 // The lent words: where each field stands, the node part, the table of phases, and the ranges.
+#![tactic(auto)]
+
 pub mod damage;
 pub mod fields;
 pub mod nodes;
