@@ -1,12 +1,11 @@
 -- The calls of document 01: for any words and any arguments, the answer and every word afterwards.
-use Rattle.std.specs.Prelude.{ℕ, ◌+◌, ◌*◌, ◌-◌, Bool, true, false, cond, not, ◌||◌, ◌&&◌, List, [], ◌∷◌, ◌++◌, ltb, leb, eqb, length, replicate, drop}
+use Rattle.std.specs.Prelude.{ℕ, ◌+◌, ◌-◌, Bool, cond, not, ◌||◌, ◌&&◌, List, [], ◌∷◌, ◌++◌, ltb, leb, eqb, length, replicate, drop}
 use Rattle.definitions.specs.declared.Answer.{Answer}
-use Rattle.definitions.specs.declared.PhaseRow.{PhaseRow}
-use Rattle.definitions.specs.Cells.{Cells, Assignment, ◌≔◌, workers, items_limit, projects, counter, items, phase, item, value, older, stamp, head, birth, size, needed, items_offset, nodes_offset, cells_of, written, record_of, cleared}
-use Rattle.definitions.specs.Answers.{Outcome, Refusal, ◌⇒◌, refusal, accepted, refused, unless, accepts}
+use Rattle.definitions.specs.Cells.{Cells, Assignment, ◌≔◌, workers, items_limit, counter, items, phase, item, value, older, stamp, head, birth, size, needed, items_offset, nodes_offset, cells_of, written, record_of, cleared}
+use Rattle.definitions.specs.Answers.{Outcome, Refusal, ◌⇒◌, refusal, accepted, unless, accepts}
 use Rattle.definitions.specs.Phases.{row_of, v_read_start, v_cas_start, take_snapshot_start, read_snapshot_start, total_start, closing_phase}
 use Rattle.definitions.specs.Damage.{any_of, sizes_outside, header_damaged, worker_damaged, step_damaged, keeps_new_node, inside_item, item_damaged, first_damaged, bad_value, bad_handle, bad_item}
-use Rattle.definitions.specs.Lines.{Line, no_node, node_to_take, taking, returning, returned_node, line_of_phase}
+use Rattle.definitions.specs.Lines.{no_node, node_to_take, taking, returning, returned_node, line_of_phase}
 
 pub data Call : Type 0 where
   make : (p m n q c : ℕ) → Call

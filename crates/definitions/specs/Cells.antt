@@ -1,6 +1,6 @@
 -- The lent words as named cells, and what a call writes as a list of assignments to cells.
 -- docs/FIELDS.md is this file for people.
-use Rattle.std.specs.Prelude.{ℕ, ◌+◌, ◌*◌, ◌-◌, cond, List, [], ◌∷◌, ◌++◌, ltb, get_or, set}
+use Rattle.std.specs.Prelude.{ℕ, ◌+◌, ◌*◌, ◌-◌, cond, List, [], ◌∷◌, ltb, get_or, set}
 
 -- A cell: which field (its kind) of which record (its index).
 pub record Cell : Type 0 where

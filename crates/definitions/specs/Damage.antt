@@ -1,5 +1,5 @@
 -- Damage, word by word: a word that the call uses is outside its range.
-use Rattle.std.specs.Prelude.{ℕ, ◌+◌, ◌*◌, ◌-◌, Bool, true, false, cond, not, ◌||◌, ◌&&◌, List, [], ◌∷◌, ltb, leb, eqb, length}
+use Rattle.std.specs.Prelude.{ℕ, ◌+◌, ◌*◌, ◌-◌, Bool, false, cond, not, ◌||◌, ◌&&◌, List, [], ◌∷◌, ltb, leb, eqb, length}
 use Rattle.definitions.specs.declared.PhaseRow.{PhaseRow}
 use Rattle.definitions.specs.Cells.{Cells, workers, items_limit, nodes_limit, projects, counter_limit, counter, items, used, given_back, phase, steps, item, old, new, handle, project, noted, node, new_node, seen, sum_low, sum_high, head, birth, value, older, stamp, needed, cells_of}
 use Rattle.definitions.specs.Phases.{row_of, v_read_operation, v_cas_operation, take_snapshot_operation, read_snapshot_operation}

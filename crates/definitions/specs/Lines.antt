@@ -1,5 +1,5 @@
 -- Algorithm 1, line by line, as document 01 steps it: what a step of worker w answers and writes, given what the cells hold.
-use Rattle.std.specs.Prelude.{ℕ, ◌+◌, ◌*◌, ◌-◌, ◌/◌, ◌%◌, Bool, true, false, cond, not, ◌||◌, ◌&&◌, List, [], ◌∷◌, ◌++◌, ltb, leb, eqb, get_or}
+use Rattle.std.specs.Prelude.{ℕ, ◌+◌, ◌-◌, ◌/◌, ◌%◌, Bool, false, cond, not, ◌||◌, ◌&&◌, List, [], ◌∷◌, ◌++◌, ltb, leb, eqb, get_or}
 use Rattle.definitions.specs.Cells.{Cells, Assignment, ◌≔◌, nodes_limit, counter_limit, counter, used, given_back, phase, item, old, new, handle, project, noted, node, new_node, seen, sum_low, sum_high, head, birth, size, value, older, stamp}
 use Rattle.definitions.specs.Answers.{Outcome, refused, goes_on, answers, ends_with}
 use Rattle.definitions.specs.Phases.{published, lost, total_start, closing_phase}

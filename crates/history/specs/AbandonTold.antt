@@ -1,9 +1,8 @@
 -- The machine of versions abandons a worker exactly when it is there and not free; its answer is 02, and the worker is free.
-use Rattle.std.specs.Prelude.{◌≡◌, ◌↔◌, Bool, true, false, not, cond, List, ◌∷◌, ℕ, ◌<◌}
+use Rattle.std.specs.Prelude.{◌≡◌, ◌↔◌, Bool, not, List, ◌∷◌, ℕ, ◌<◌}
 use Rattle.std.proofs.Math.Path.{refl, ap, subst}
-use Rattle.std.proofs.Common.{sym, ◌∙◌, arith, T_not}
+use Rattle.std.proofs.Common.{sym, ◌∙◌, arith}
 use Rattle.std.proofs.Math.Dec.{T, nleb→lt}
-use Rattle.definitions.specs.Answers.{accepted}
 use Rattle.definitions.specs.Calls.{Call}
 use Rattle.history.specs.Tools.{put_same}
 use Rattle.history.specs.Notes.{Note, if_accepted, holds_at}
@@ -33,12 +32,11 @@ use Rattle.history.specs.Machine.{
   event_move,
   after_events,
 }
-use Rattle.history.specs.Places.{Invariant}
 use Rattle.history.specs.Run.{Passed, run_right}
 use Rattle.history.specs.NodeCount.{limits_kept}
 use Rattle.history.specs.MachineNotes.{worker_line, machine_note, event_note, machine_notes}
-use Rattle.history.specs.LedgerRight.{Agrees, agrees}
-use Rattle.history.specs.EffectsRun.{Effected, effected}
+use Rattle.history.specs.LedgerRight.{agrees}
+use Rattle.history.specs.EffectsRun.{effected}
 use Rattle.history.specs.Accepts.{unless_passed, passed_unless, above, idle_free}
 use Rattle.history.specs.Refusals.{at_work}
 

@@ -1,17 +1,16 @@
 -- An abandoned operation is given up, and stays so. And a time that has not come names no operation.
 use Rattle.std.proofs.Math.Path.{◌≡◌, ap, subst}
-use Rattle.std.specs.Prelude.{refl, ◌≢◌, ◌↔◌, Bool, true, false, not, cond, ℕ, suc, ◌≤◌, ◌<◌, length}
+use Rattle.std.specs.Prelude.{refl, ◌≢◌, Bool, ℕ, suc, ◌≤◌, length}
 use Rattle.std.proofs.Common.{sym, ◌∙◌, inl, inr}
 use mathlib.Core.List.{List, [], ◌∷◌}
 use native.Mathlib.Omega.{arith}
-use Rattle.definitions.specs.Calls.{Call}
-use Rattle.history.specs.Tools.{put, put_all, put_same, put_other}
+use Rattle.history.specs.Tools.{put, put_all, put_other}
 use Rattle.history.specs.Definition1.{Operation, take_snapshot, Follows}
 use Rattle.history.specs.Notes.{Deed, Ending, ends_with, given_up, Note, Fate, begins, stops, entered, ledger}
 use Rattle.history.specs.Notes as Notes
 use Rattle.history.specs.NoteParts.{note_tag, note_worker, ending_tag}
 use Rattle.history.specs.Statements.{fate_of, Abandoned}
-use Rattle.history.specs.Machine.{Limits, Phase, Worker, busy, Catalogue, Event, happens, after_events, line_number, holds_node}
+use Rattle.history.specs.Machine.{Limits, Phase, Worker, busy, Catalogue, Event, happens, after_events, holds_node}
 use Rattle.history.specs.Places.{Invariant}
 use Rattle.history.specs.Run.{run_right}
 use Rattle.history.specs.MachineNotes.{event_note, machine_notes, event_cases}

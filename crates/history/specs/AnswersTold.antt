@@ -3,7 +3,6 @@
 use Rattle.std.proofs.Math.Path.{◌≡◌, ap}
 use Rattle.std.specs.Prelude.{refl, cond, List, ◌∷◌, ℕ, length}
 use Rattle.std.proofs.Common.{ap₂, sym, ◌∙◌, subst, arith}
-use Rattle.definitions.specs.declared.Answer.{Answer}
 use Rattle.definitions.specs.Answers.{accepted}
 use Rattle.definitions.specs.Calls.{Call}
 use Rattle.history.specs.Tools.{by_test}

@@ -1,7 +1,7 @@
 -- After every run, the list of effects of its notes is that of the machine.
 use Rattle.std.proofs.Math.Path.{◌≡◌, refl, ap, ap₂, sym, subst}
 use Rattle.std.proofs.Common.{◌∙◌}
-use Rattle.std.specs.Prelude.{Bool, List, [], ◌∷◌, T, length}
+use Rattle.std.specs.Prelude.{Bool, List, [], ◌∷◌, length}
 use Rattle.std.proofs.Math.Bool.{false}
 use Prim.Native.Nat.{ℕ, zero, suc, pred, ◌≤◌, ◌<◌}
 use native.Mathlib.Omega.{arith}

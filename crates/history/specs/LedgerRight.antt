@@ -122,7 +122,7 @@ module _ (s : Catalogue) (invariant : Invariant s) (run : List Note) (A : Agrees
               answered = λ x e. refl;
               refused = λ n d e. let z : ◌≡◌ {A = ℕ} 1 2 = ap ending_tag e in absurd (omega arith);
             });
-        worker = λ w. stays _ w refl (s.worker w) refl (λ o l ph e. older w o l ph _ e);
+        worker = λ w. stays (ledger (Notes.registered s.memory.items v z ∷ run)) w refl (s.worker w) refl (λ o l ph e. older w o l ph (begins (register s.memory.items v z) 0 (Notes.answers s.memory.items) (length run)) e);
         running = λ o. put_all (λ (o : ℕ) (g : Fate). g.ending ≡ Notes.goes_on → Runs s o g) (ledger run).fate (length run) _ o
             (λ e q. let z : ◌≡◌ {A = ℕ} 1 0 = ap ending_tag q in absurd (omega arith)) (λ e. A.running o);
       }

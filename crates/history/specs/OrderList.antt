@@ -5,7 +5,7 @@ use Rattle.std.proofs.Common.{ap₂, ◌∙◌, subst, arith, eqb→eq}
 use Rattle.std.proofs.Math.Logic.{inl, inr}
 use mathlib.Core.List.{List, [], ◌∷◌, map}
 use Rattle.std.proofs.Math.Dec.{eqb_refl}
-use Rattle.history.specs.Tools.{put, Split, split, Same, eq, ne, same?}
+use Rattle.history.specs.Tools.{Split, split, Same, eq, ne, same?}
 use Rattle.history.specs.Machine.{Item, Memory, Operation, take_snapshot, Place, unplaced, awaits, changes, observes, Catalogue}
 use Rattle.history.specs.Facts.{Sees}
 use Rattle.history.specs.RightAnswers.{change_answer}

@@ -1,7 +1,7 @@
 -- Which number a refused call of the machine of versions gets: the least that applies to it.
 use Rattle.std.specs.Prelude.{◌≡◌, refl, ◌≢◌, ◌⊎◌, ◌↔◌, Bool, true, false, not, cond, ◌||◌, List, ◌∷◌, ℕ, ◌+◌, ◌≤◌, ◌<◌, T, ltb, leb, length}
 use Rattle.std.proofs.Math.Path.{ap}
-use Rattle.std.proofs.Common.{sym, ◌∙◌, subst, inl, inr, arith, T_not, leb→le, ltb→lt}
+use Rattle.std.proofs.Common.{sym, subst, inl, inr, arith, T_not, leb→le, ltb→lt}
 use Rattle.std.proofs.Math.Dec.{nleb→lt}
 use Rattle.definitions.specs.declared.Answer.{Answer}
 use Rattle.definitions.specs.Answers.{refusal, accepted}
@@ -12,49 +12,7 @@ use Rattle.history.specs.Notes.{Note, nodes_in_use, snapshot, object_at}
 use Rattle.history.specs.Statements.{In, Free}
 use Rattle.history.specs.Demands.{Given, Least, object_now, items_now, Applies}
 use Rattle.history.specs.Effects.{effects}
-use Rattle.history.specs.Machine.{
-  Limits,
-  none_left,
-  node_to_take,
-  found,
-  Operation,
-  v_read,
-  v_cas,
-  take_snapshot,
-  read_snapshot,
-  total,
-  Comes,
-  goes_on,
-  ends_with,
-  answers_change,
-  answers,
-  line_number,
-  line,
-  Worker,
-  idle,
-  busy,
-  Catalogue,
-  Move,
-  refused,
-  is_idle,
-  no_worker,
-  no_project,
-  not_registered,
-  no_handle,
-  step_answer,
-  stepped,
-  stepping,
-  left,
-  abandoning,
-  begun,
-  starting,
-  registered,
-  registering,
-  move,
-  reply,
-  Event,
-  after_events,
-}
+use Rattle.history.specs.Machine.{Limits, none_left, node_to_take, Comes, goes_on, ends_with, answers_change, answers, line_number, line, Worker, idle, busy, Catalogue, Move, refused, is_idle, no_worker, no_project, not_registered, no_handle, step_answer, stepped, stepping, left, abandoning, starting, registered, registering, move, reply, Event, after_events}
 use Rattle.history.specs.Places.{Invariant}
 use Rattle.history.specs.Run.{run_right}
 use Rattle.history.specs.NodeCount.{Tally, tally, limits_kept}

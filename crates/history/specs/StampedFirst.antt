@@ -1,7 +1,7 @@
 -- A node has its stamp before the next node of its item is published, so the first stamp of an item after a publication is that node's. And takeSnapshots
 -- that answered one number have one instant.
 use Rattle.std.specs.Prelude.{◌≡◌, List, ℕ, suc, ◌<◌}
-use Rattle.std.proofs.Common.{ap, sym, subst, arith}
+use Rattle.std.proofs.Common.{ap, subst, arith}
 use Rattle.history.specs.Tools.{Split, split, Same, eq, ne, same?}
 use Rattle.history.specs.Definition1.{Operation, take_snapshot}
 use Rattle.history.specs.Notes.{Note, Effect, snapshot}

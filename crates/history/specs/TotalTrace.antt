@@ -3,7 +3,6 @@ use Rattle.std.specs.Prelude.{◌≡◌, List, [], ◌∷◌, ◌++◌, ℕ, suc
 use Rattle.std.proofs.Common.{arith}
 use Rattle.history.specs.Tools.{Split, split}
 use Rattle.history.specs.Notes.{Note}
-use Rattle.history.specs.Notes as Notes
 use Rattle.history.specs.Statements.{Fetched}
 use Rattle.history.specs.Machine.{
   Memory,
