@@ -6,30 +6,7 @@ use Rattle.definitions.specs.Damage.{header_damaged_at, arguments_damaged, kept_
 use Rattle.definitions.specs.Lines.{fetch_head, line_20, line_21, line_22, line_43, line_45, line_46, line_48, line_50, line_52, lines, line_of_phase}
 use Rattle.definitions.specs.Calls.{registering, starting_v_cas, stepping, making, outcome}
 use Rattle.history.specs.Definition1.{put, v_cas}
-use Rattle.history.specs.Notes.{
-  fetches,
-  finds,
-  publishes,
-  stamps,
-  nothing,
-  goes_on,
-  answers,
-  Note,
-  registered,
-  started,
-  stepped,
-  note_by,
-  told,
-  words_after,
-  notes,
-  ledger,
-  entered,
-  Effect,
-  birth,
-  change,
-  snapshot,
-  time,
-}
+use Rattle.history.specs.Notes.{fetches, finds, publishes, stamps, nothing, goes_on, answers, Note, registered, started, stepped, note_by, told, words_after, notes, ledger, entered, Effect, birth, change, time}
 use Rattle.history.specs.Statements.{In, fate_of, Executed, LossInstant, CasInstant, TellsOf}
 use Rattle.history.specs.Effects.{insert, last_published, effects}
 use Rattle.history.specs.Immediately.{same_event}

@@ -7,54 +7,9 @@ use Rattle.definitions.specs.Damage.{keeps_new_node}
 use Rattle.definitions.specs.Calls.{returned_if_held}
 use Rattle.cells.specs.Update.{after, Proper}
 use Rattle.history.specs.Tools.{put, put_all, put_same, put_other, Same, eq, ne, same?}
-use Rattle.history.specs.Machine.{
-  Item,
-  Memory,
-  Limits,
-  Found,
-  no_node,
-  node,
-  Phase,
-  line_37,
-  line_39,
-  line_41,
-  line_43,
-  line_45,
-  line_46,
-  line_48,
-  line_50,
-  line_51,
-  line_52,
-  line_5,
-  line_6,
-  line_32,
-  line_34,
-  total_32,
-  total_34,
-  closing,
-  line_20,
-  line_21,
-  line_22,
-  then_39,
-  then_43,
-  then_48,
-  then_52,
-  then_34,
-  then_total_34,
-  Effect,
-  nothing,
-  gives_back,
-  memory_after,
-  Worker,
-  idle,
-  busy,
-  Catalogue,
-  held_node,
-  give,
-  left_off,
-}
+use Rattle.history.specs.Machine.{Item, Memory, Limits, Found, no_node, node, Phase, line_37, line_39, line_41, line_43, line_45, line_46, line_48, line_50, line_51, line_52, line_5, line_6, line_32, line_34, total_32, total_34, closing, line_20, line_21, line_22, then_39, then_43, then_48, then_52, then_34, then_total_34, Effect, memory_after, Worker, idle, busy, Catalogue, held_node, give, left_off}
 use Rattle.reached.specs.Parts.{Shared, Local, shared_of, local_of}
-use Rattle.reached.specs.Grows.{MemoryWell, Grows, known_later}
+use Rattle.reached.specs.Grows.{Grows, known_later}
 use Rattle.reached.specs.Effects.{EffectFits, effect_grows, effect_well}
 use Rattle.reached.specs.Image.{Owner, held, SharedImage, NodesFit, BusyImage, WorkerImage, Holds, Kept, shared_after, phase_number}
 use Rattle.reached.specs.ImageEffects.{EffectHolds, owner_after, effect_image, effect_nodes}

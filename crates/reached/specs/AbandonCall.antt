@@ -1,14 +1,14 @@
 -- A busy worker's abandon is not refused, and writes what the machine does.
-use Rattle.std.specs.Prelude.{ℕ, ◌+◌, ◌<◌, ◌≤◌, Bool, true, false, cond, ◌&&◌, List, [], ◌∷◌, ◌++◌, ◌≡◌, leb, eqb}
+use Rattle.std.specs.Prelude.{ℕ, ◌<◌, ◌≤◌, Bool, false, ◌&&◌, List, ◌≡◌, eqb}
 use Rattle.std.proofs.Math.Path.{refl, subst}
 use Rattle.std.proofs.Common.{ap, sym, ◌∙◌, arith, le-leb, ne_eqb}
 use Rattle.std.proofs.lemmas.Bool.{lt-leb}
-use Rattle.definitions.specs.Cells.{Cells, phase, workers, used, new_node, cleared}
+use Rattle.definitions.specs.Cells.{Cells, phase, workers}
 use Rattle.definitions.specs.Answers.{Outcome, accepts, accepted, refused}
 use Rattle.definitions.specs.Phases.{row_of}
-use Rattle.definitions.specs.Damage.{worker_damaged, keeps_new_node}
+use Rattle.definitions.specs.Damage.{keeps_new_node}
 use Rattle.definitions.specs.Lines.{returned_node}
-use Rattle.definitions.specs.Calls.{Call, no_worker, holds_node, returned_if_held, abandoning}
+use Rattle.definitions.specs.Calls.{Call, no_worker, holds_node, abandoning}
 use Rattle.cells.specs.Update.{after, Proper}
 use Rattle.history.specs.Tools.{Split, split}
 use Rattle.history.specs.Machine.{Found, no_node, node, Phase, Worker, idle, busy, Catalogue, Move, move, left, held_node, left_off}

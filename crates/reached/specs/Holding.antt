@@ -102,7 +102,7 @@ module _ (own : ℕ → Owner) (s : Shared) (m : Memory) (W : MemoryWell m) (w t
   line_holds (line_21 c j) k h = record { effect = tt; next = tt }
   line_holds (line_22 c j n r) k h =
       by_lt (λ (e : Effect). LineHolds own s m w t o (record { does = e; comes = goes_on (after c j) })) j (m.item (helped_item c)).valid
-      (λ e. goes (after c j) (after_holds own s m.item w c j)) (λ e. record { effect = tt; next = after_holds _ _ _ w c j })
+      (λ e. goes (after c j) (after_holds own s m.item w c j)) (λ e. record { effect = tt; next = after_holds _ _ (memory_after t o (stamps (helped_item c) j n r) m).item w c j })
 
 -- What is held stays so where the node's owner and words do.
 pub record StaysHeld (own own' : ℕ → Owner) (s s' : Shared) (y v : ℕ) : Type 0 where

@@ -10,7 +10,7 @@ use Rattle.std.proofs.Math.Nat.{div-add-mod'}
 use Rattle.std.proofs.Math.Dec.{eqb, ltb, leb}
 use borrow.Author.Tests.{lt-ltb, le-ltb, le-leb, lt-leb, eq-eqb, ne_eqb, eqb-true, ltb-true}
 use Rattle.definitions.specs.declared.Answer.{Answer}
-use Rattle.definitions.specs.Cells.{Cells, Assignment, ◌≔◌, workers, nodes_limit, counter_limit, counter, items, used, given_back, phase, steps, item, old, new, handle, project, noted, node, new_node, seen, head, birth, size, value, older, stamp}
+use Rattle.definitions.specs.Cells.{Cells, Assignment, ◌≔◌, nodes_limit, counter_limit, counter, used, given_back, phase, steps, item, old, new, handle, project, noted, node, new_node, seen, head, birth, size, value, older, stamp}
 use Rattle.definitions.specs.Answers.{Outcome, running, finished, refusal}
 use Rattle.definitions.specs.Answers as outcome
 use Rattle.definitions.specs.Phases.{closing_phase, total_start}
@@ -220,7 +220,7 @@ module _ (f : Cells) (m : Memory) (own : ℕ → Owner) (w : ℕ) (X : Standing 
   compares_43 i x y g j e k z =
       both (LineImage f m w t o n) (eqb ((m.item i).value j) x) (eqb (f (value (f (node w)))) (f (old w)))
       (ap₂ eqb (value_there i j z.0.item_in (omega (arith, z.1, (X.well.item_well i z.0.item_in).few)) k.1) k.0.old_is)
-      (λ a. both (LineImage f m w t o n) (eqb y x) (eqb (f (new w)) (f (old w))) (ap₂ eqb k.0.New_is k.0.old_is)
+      (λ a. both (LineImage f m w t o n) (eqb y x) (eqb (f (new w)) (f (old w))) (ap₂ eqb k.0.new_is k.0.old_is)
       (λ b. answered 1 1 _ _ refl)
       (λ b. record {
         answer_is = ap running (omega arith);
@@ -247,7 +247,7 @@ module _ (f : Cells) (m : Memory) (own : ℕ → Owner) (w : ℕ) (X : Standing 
       (record {
         answer_is = ap running (omega arith);
         shared_is = rw (eq-eqb (f given_back) 0 a.1) (ap₂
-            (λ (v u : ℕ). shared_of (after f (used ≔ (f used + 1) ∷ value y ≔ v ∷ older y ≔ (u + 1) ∷ stamp y ≔ TBD ∷ []))) k.0.New_is k.1);
+            (λ (v u : ℕ). shared_of (after f (used ≔ (f used + 1) ∷ value y ≔ v ∷ older y ≔ (u + 1) ∷ stamp y ≔ TBD ∷ []))) k.0.new_is k.1);
         next_is = rw (self w) (record {
           phase_is = omega arith;
           steps_are = omega arith;
@@ -271,7 +271,7 @@ module _ (f : Cells) (m : Memory) (own : ℕ → Owner) (w : ℕ) (X : Standing 
         answer_is = ap running (omega arith);
         shared_is = rw (ne_eqb (f given_back) 0 a.1) (ap₂
             (λ (v u : ℕ). shared_of (after f (given_back ≔ f (older (f given_back - 1)) ∷ value y ≔ v ∷ older y ≔ (u + 1) ∷ stamp y ≔ TBD ∷ [])))
-            k.0.New_is k.1);
+            k.0.new_is k.1);
         next_is = rw (self w) (record {
           phase_is = omega arith;
           steps_are = omega arith;

@@ -1,10 +1,7 @@
 -- A worker's record from step to step: what it keeps of its arguments, and the phase after a help.
 use Rattle.std.specs.Prelude.{ℕ, ◌+◌, ◌<◌, Bool, true, false, cond, ◌≡◌, refl, eqb}
 use Rattle.std.proofs.Common.{sym, ◌∙◌, subst, eq-eqb}
-use Rattle.definitions.specs.Cells.{phase, steps, item, old, new, handle, project, noted, node, new_node, seen, cleared}
-use Rattle.definitions.specs.Answers as outcome
-use Rattle.definitions.specs.Damage.{sum}
-use Rattle.definitions.specs.Lines as code
+use Rattle.definitions.specs.Cells.{cleared}
 use Rattle.cells.specs.Update.{Proper, record_proper}
 use Rattle.history.specs.Machine.{Item, Then, then_39, then_43, then_48, then_52, then_34, then_total_34, helped_item}
 use Rattle.history.specs.Machine.{after as phase_after}

@@ -5,7 +5,7 @@ use Rattle.std.proofs.Common.{inl, ap₂, sym, ◌∙◌, subst, arith}
 use Rattle.std.proofs.Math.Path.{◌≡◌, ap}
 use Rattle.std.proofs.Math.Dec.{leb}
 use borrow.Author.Tests.{lt-leb, le-leb, leb-false, eq-eqb, ne_eqb}
-use Rattle.definitions.specs.Cells.{Cells, Assignment, ◌≔◌, nodes_limit, items_limit, projects, counter, items, used, given_back, head, birth, size, value, older, stamp}
+use Rattle.definitions.specs.Cells.{Cells, Assignment, ◌≔◌, nodes_limit, items_limit, counter, items, used, given_back, head, birth, size, value, older, stamp}
 use Rattle.definitions.specs.Answers.{accepted}
 use Rattle.definitions.specs.Answers as outcome
 use Rattle.definitions.specs.Damage.{TBD, bad_value, first_damaged}

@@ -7,7 +7,7 @@ use Rattle.std.proofs.Common.{ap, ap₂, sym, ◌∙◌}
 use native.Mathlib.Omega.{arith}
 use Rattle.std.proofs.Math.Dec.{leb, ltb}
 use borrow.Author.Tests.{le-ltb, ltb-false, leb-false, eq-eqb, ne_eqb}
-use Rattle.definitions.specs.Cells.{Cells, Assignment, workers, projects, counter, items, phase, item, birth, record_of}
+use Rattle.definitions.specs.Cells.{Cells, Assignment, workers, counter, items, phase, birth, record_of}
 use Rattle.definitions.specs.Answers.{Outcome, accepted}
 use Rattle.definitions.specs.Answers as outcome
 use Rattle.definitions.specs.Phases.{row_of, v_read_start, v_cas_start, take_snapshot_start, read_snapshot_start, total_start, closing_phase}

@@ -12,7 +12,7 @@ use Rattle.definitions.specs.Cells.{Cell, cell, Cells, Assignment, ◌≔◌, it
 use Rattle.definitions.specs.Answers.{Outcome, Refusal, unless, ◌⇒◌, goes_on, accepts}
 use Rattle.definitions.specs.Phases.{row_of, table, v_read_start, v_cas_start, published, lost, take_snapshot_start, read_snapshot_start, total_start, closing_phase}
 use Rattle.definitions.specs.Damage.{TBD, inside_item, bad_value, bad_handle, keeps_node, keeps_new_node, running_damaged, worker_damaged, step_damaged, item_damaged, first_damaged}
-use Rattle.definitions.specs.Lines.{lines, line_of_phase, fetch_head, line_20, line_21, line_22, line_39, line_43, line_45, line_46, line_48, line_50, line_52, line_5, line_6, line_34, total_32, total_34, closing, no_node, node_to_take, too_new, to_older, added, returning, returned_node}
+use Rattle.definitions.specs.Lines.{lines, line_of_phase, fetch_head, line_20, line_21, line_22, line_39, line_43, line_45, line_46, line_48, line_50, line_52, line_5, line_6, line_34, total_32, total_34, closing, no_node, too_new, to_older, added, returning, returned_node}
 use Rattle.definitions.specs.Calls.{Call, busy, no_worker, free_worker, sound_item, registering, registered, starting_v_read, starting_v_cas, starting_take_snapshot, starting_read_snapshot, starting_total, stepping, holds_node, returned_if_held, abandoning}
 use Rattle.cells.specs.Stands.{Stands}
 use Rattle.cells.specs.Update.{put, after, same_cell}
