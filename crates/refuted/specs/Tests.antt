@@ -1,9 +1,9 @@
 -- How a refutation reads the notes of a run: a test of every operation, or of every note, is computed over the whole run at once.
-use Rattle.std.specs.Prelude.{◌≡◌, refl, Bool, true, false, not, ◌||◌, ◌&&◌, List, [], ◌∷◌, ℕ, zero, suc, ◌<◌, ◌≤◌, T, eqb, length, drop}
-use Rattle.std.proofs.Common.{ap, sym, ◌∙◌, subst, inl, inr, arith}
-use Rattle.history.specs.Definition1.{take_snapshot, Follows}
-use Rattle.history.specs.Tools.{put_all, put_other, Split, split, Same, same?, and_parts}
-use Rattle.history.specs.Notes.{Deed, Ending, ends_with, Note, quiet, registered, started, stepped, abandoned, refused, Fate, begins, entered, ledger}
+use Rattle.std.specs.Prelude.{◌≡◌, refl, Bool, true, false, not, ◌||◌, ◌&&◌, List, [], ◌∷◌, ℕ, zero, suc, ◌<◌, T, eqb, length, drop}
+use Rattle.std.proofs.Common.{ap, sym, subst, inl, inr, arith}
+use Rattle.history.specs.Definition1.{Follows}
+use Rattle.history.specs.Tools.{Split, split, Same, same?, and_parts}
+use Rattle.history.specs.Notes.{Deed, Ending, Note, quiet, registered, started, stepped, abandoned, refused, Fate, ledger}
 use Rattle.history.specs.NoteParts.{ending_tag}
 use Rattle.history.specs.Abandons.{no_operation, none_later}
 use Rattle.history.specs.Statements.{fate_of, Free, Executed}

@@ -1,6 +1,6 @@
 -- Document 02's abandon, tried on words: one list, one statement, by running `outcome`. What it answers, and what it leaves of the worker's record, of a node
 -- that was held and of one that was published.
-use Rattle.std.specs.Prelude.{ℕ, ◌≡◌, refl, List, [], ◌∷◌, ◌++◌, replicate}
+use Rattle.std.specs.Prelude.{ℕ, refl, List, [], ◌∷◌, ◌++◌, replicate}
 use Rattle.definitions.specs.declared.Answer.{Answer}
 use Rattle.definitions.specs.Cells.{Assignment, ◌≔◌, given_back, head, value, older, stamp, cleared}
 use Rattle.definitions.specs.Answers.{finished, accepted, refusal}

@@ -1,6 +1,6 @@
 -- Document 01's paragraph on damage, tried on words set by hand: one list, one statement, by running `outcome`. Each entry stands for a sentence of it
 -- that is easily read more widely than it is written.
-use Rattle.std.specs.Prelude.{ℕ, ◌≡◌, refl, List, [], ◌∷◌, ◌++◌, replicate}
+use Rattle.std.specs.Prelude.{ℕ, ◌≡◌, refl, List, [], ◌∷◌, replicate}
 use Rattle.definitions.specs.declared.Answer.{Answer}
 use Rattle.definitions.specs.Cells.{Assignment, ◌≔◌, needed, items_offset, nodes_offset, written, given_back, steps, seen, birth, value}
 use Rattle.definitions.specs.Answers.{finished, running, accepted, refusal}

@@ -1,11 +1,11 @@
 -- The fifteen runs of document 01: one list, one statement, proved by running `outcome`, the function that the exported calls' contracts cite.
-use Rattle.std.specs.Prelude.{ℕ, zero, suc, ◌+◌, ◌*◌, ◌-◌, ◌≡◌, refl, Bool, true, false, ◌&&◌, List, [], ◌∷◌, ◌++◌, eqb, replicate}
+use Rattle.std.specs.Prelude.{ℕ, zero, suc, ◌+◌, ◌≡◌, refl, Bool, true, ◌&&◌, List, [], ◌∷◌, ◌++◌, eqb, replicate}
 use Rattle.definitions.specs.declared.Answer.{Answer}
-use Rattle.definitions.specs.Cells.{Cell, Assignment, ◌≔◌, counter, used, seen, head, stamp, needed, cells_of}
+use Rattle.definitions.specs.Cells.{Assignment, ◌≔◌, counter, used, seen, head, stamp, needed, cells_of}
 use Rattle.definitions.specs.Phases.{table, row_of}
 use Rattle.definitions.specs.Damage.{header_damaged_at, running_damaged, arguments_damaged, kept_damaged}
 use Rattle.definitions.specs.Lines.{fetch_head, line_20, line_21, line_22, line_39, line_43, line_45, line_46, line_48, line_50, line_52, line_5, line_6, line_34, total_32, total_34, closing, lines, line_of_phase}
-use Rattle.definitions.specs.Calls.{Call, Result, making, registering, starting_v_read, starting_v_cas, starting_take_snapshot, starting_read_snapshot, starting_total, stepping, outcome}
+use Rattle.definitions.specs.Calls.{Call, making, registering, starting_v_read, starting_v_cas, starting_take_snapshot, starting_read_snapshot, starting_total, stepping, outcome}
 use Rattle.definitions.specs.Calls.Call.{make, register, v_read, v_cas, take_snapshot, read_snapshot, total, step}
 
 -- The answers that document 01 gives, in its own numbers and not by the words of the definitions: code, value and steps, and the two later numbers, 0.
