@@ -1,4 +1,6 @@
 // Lines, frames and answer lines of the schedule program, by the definitions of specs/.
+#![tactic(auto)]
+
 ghost use Rattle.std.specs.Prelude.{◌≡◌, ◌+◌, ◌<◌, ◌≤◌, length, take, drop};
 ghost use Rattle.std.proofs.lemmas.List.Edits.{sets};
 ghost use Rattle.frames.specs.Lines.{line_length, after_line};
@@ -86,6 +88,7 @@ fn before_feed(text: &[u8], i: usize) -> usize
 }
 
 // The same of what is left of a text, byte by byte.
+#[tactic(auto, using(crate::specs::LineLaws::length_feed, crate::specs::LineLaws::length_end))]
 fn line_length_from(text: &[u8], from: usize) -> usize
     requires { from ≤ length text.now }
     ensures { (result ≡ from + line_length (drop from text.now)) × (result ≤ length text.now) }
@@ -128,6 +131,7 @@ pub fn after_line(text: &[u8]) -> &[u8]
 
 // The number of a lower-case hexadecimal digit; 65536 of any other byte, which makes any number that it stands in too large.
 // By tests and not by a table: a constant table is copied at every use.
+#[tactic(auto, using(crate::specs::FrameLaws::digit_figure, crate::specs::FrameLaws::digit_letter))]
 fn digit(byte: u8) -> u32
     ensures { (result ≡ digit_of byte) × (result ≤ 65536) }
 {
