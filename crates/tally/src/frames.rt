@@ -1,7 +1,6 @@
 // The log of the calls since the last make, and its frames, as the schedule program reads them.
-use crate::draws::{low, wide};
 use crate::notes::{LOGGED, count, get};
-use libc::STDOUT_FILENO;
+use std::io;
 
 // An abandon stands among the operations, though the schedule program has no frame for it.
 pub const ABANDON: u32 = 9;
@@ -106,57 +105,58 @@ fn numbers_of(operation: u32) -> usize {
     }
 }
 
-fn show_argument(log: &[u32], number: u64, which: usize) {
-    io::print_hex(STDOUT_FILENO, wide(kept(log, entry(number, which))), 4);
+fn show_argument(rt: &impl Print, log: &[u32], number: u64, which: usize) -> io::Result<()> {
+    let argument = kept(log, entry(number, which));
+    print!(rt; "{argument:04x}")
 }
 
-fn show_arguments(log: &[u32], number: u64, some: usize) {
+fn show_arguments(rt: &impl Print, log: &[u32], number: u64, some: usize) -> io::Result<()> {
     let mut which: usize = 1;
     while which < some {
-        show_argument(log, number, which);
+        show_argument(rt, log, number, which)?;
         which += 1;
     }
+    Ok(())
 }
 
-fn show_operation(operation: u32) {
+fn show_operation(rt: &impl Print, operation: u32) -> io::Result<()> {
     if operation == ABANDON {
-        io::write_all(STDOUT_FILENO, b"abandon ");
-        return;
+        return print!(rt; "abandon ");
     }
-    io::print_hex(STDOUT_FILENO, wide(operation), 2);
+    print!(rt; "{operation:02x}")
 }
 
 // A frame, or an abandon; what no frame can say, fewer words lent than the schedule program lends, stands behind it.
-fn show_frame(log: &[u32], number: u64) {
+fn show_frame(rt: &impl Print, log: &[u32], number: u64) -> io::Result<()> {
     let first = kept(log, entry(number, 0));
     let operation = first % 16;
-    show_operation(operation);
-    show_arguments(log, number, numbers_of(operation));
+    show_operation(rt, operation)?;
+    show_arguments(rt, log, number, numbers_of(operation))?;
     if first / 16 < 16384 {
-        io::write_all(STDOUT_FILENO, b" words lent: ");
-        io::print_decimal(STDOUT_FILENO, wide(first / 16));
+        print!(rt; " words lent: {}", first / 16)?;
     }
-    io::write_all(STDOUT_FILENO, b"\n");
+    println!(rt;)
 }
 
 // Every call of the log, the one that differs last.
-pub fn show(log: &[u32], tally: &[u64]) {
-    io::write_all(
-        STDOUT_FILENO,
-        b"a difference; the calls that lead to it, as frames:\n",
-    );
+pub fn show(rt: &impl Print, log: &[u32], tally: &[u64]) -> io::Result<()> {
+    println!(rt; "a difference; the calls that lead to it, as frames:")?;
     let all = get(tally, LOGGED);
     let mut number: u64 = 0;
     while number < all {
-        show_frame(log, number);
+        show_frame(rt, log, number)?;
         number += 1;
     }
+    Ok(())
 }
 
-pub fn show_answer(who: &[u8], code: u64, value: u64, steps: u64) {
-    io::write_all(STDOUT_FILENO, who);
-    io::print_hex(STDOUT_FILENO, code, 2);
-    io::print_hex(STDOUT_FILENO, value, 16);
-    io::print_hex(STDOUT_FILENO, steps, 4);
-    io::write_all(STDOUT_FILENO, b"\n");
+pub fn show_answer(
+    rt: &impl Print,
+    who: &[u8],
+    code: u64,
+    value: u64,
+    steps: u64,
+) -> io::Result<()> {
+    rt.write_all(who)?;
+    println!(rt; "{code:02x}{value:016x}{steps:04x}")
 }

@@ -1,4 +1,6 @@
 // What the soak draws, notes, logs and prints: all of it but the calls that it makes.
+#![tactic(auto)]
+
 pub mod draws;
 pub mod frames;
 pub mod notes;

@@ -1,10 +1,9 @@
 // What a run prints: the counts.
-use crate::draws::wide;
 use crate::notes::{
     ABANDONED, ABANDONS, CATALOGUES, COMPARED, DIFFER, FIRST_AT, LONGEST, MOVES, PHASES, REFUSALS,
     ROUNDS, SEED, get, move_place, place,
 };
-use libc::{STDERR_FILENO, STDOUT_FILENO};
+use std::io;
 use std::num::{wrapping_add_u64, wrapping_add_usize};
 
 // Every move from phase to phase that document 01's steps have, two numbers a move; 0 is idle.
@@ -18,18 +17,8 @@ const POSSIBLE: [u32; 112] = [
     35, 0, // total
 ];
 
-fn say(text: &[u8]) {
-    io::write_all(STDOUT_FILENO, text);
-}
-
-fn number(n: u64) {
-    io::print_decimal(STDOUT_FILENO, n);
-}
-
-fn line(text: &[u8], n: u64) {
-    say(text);
-    number(n);
-    say(b"\n");
+fn line(rt: &impl Print, text: &str, n: u64) -> io::Result<()> {
+    println!(rt; "{text}{n}")
 }
 
 fn one_if_counted(tally: &[u64], at: usize) -> u64 {
@@ -64,20 +53,20 @@ fn place_of_move(which: usize) -> usize {
     move_place(phase_of_move(which, 0), phase_of_move(which, 1))
 }
 
-fn one_move(tally: &[u64], which: usize) {
-    say(b"move ");
-    number(wide(phase_of_move(which, 0)));
-    say(b" to ");
-    number(wide(phase_of_move(which, 1)));
-    line(b": ", get(tally, place_of_move(which)));
+fn one_move(rt: &impl Print, tally: &[u64], which: usize) -> io::Result<()> {
+    let before = phase_of_move(which, 0);
+    let after = phase_of_move(which, 1);
+    print!(rt; "move {before} to {after}")?;
+    line(rt, ": ", get(tally, place_of_move(which)))
 }
 
-fn moves(tally: &[u64]) {
+fn moves(rt: &impl Print, tally: &[u64]) -> io::Result<()> {
     let mut which: usize = 0;
     while which < 56 {
-        one_move(tally, which);
+        one_move(rt, tally, which)?;
         which += 1;
     }
+    Ok(())
 }
 
 fn moves_met(tally: &[u64]) -> u64 {
@@ -90,95 +79,100 @@ fn moves_met(tally: &[u64]) -> u64 {
     met
 }
 
-fn one_row(tally: &[u64], text: &[u8], from: usize, which: u32) {
-    say(text);
-    number(wide(which));
-    line(b": ", get(tally, place(from, which, 36)));
+fn one_row(rt: &impl Print, tally: &[u64], text: &str, from: usize, which: u32) -> io::Result<()> {
+    print!(rt; "{text}{which}")?;
+    line(rt, ": ", get(tally, place(from, which, 36)))
 }
 
 // The counts from a first up to a last, that one left out.
-fn rows(tally: &[u64], text: &[u8], from: usize, first: u32, last: u32) {
+fn rows(
+    rt: &impl Print,
+    tally: &[u64],
+    text: &str,
+    from: usize,
+    first: u32,
+    last: u32,
+) -> io::Result<()> {
     let mut which = first;
     while which < last {
-        one_row(tally, text, from, which);
+        one_row(rt, tally, text, from, which)?;
         which += 1;
     }
+    Ok(())
 }
 
-fn longest(tally: &[u64]) {
-    line(b"longest vRead: ", get(tally, place(LONGEST, 5, 36)));
-    line(
-        b"longest vCAS that ended at 43: ",
-        get(tally, place(LONGEST, 10, 36)),
-    );
-    line(
-        b"longest vCAS that changed its item: ",
-        get(tally, place(LONGEST, 16, 36)),
-    );
-    line(
-        b"longest vCAS that lost: ",
-        get(tally, place(LONGEST, 22, 36)),
-    );
-    line(
-        b"longest takeSnapshot: ",
-        get(tally, place(LONGEST, 24, 36)),
-    );
-    line(
-        b"longest readSnapshot: ",
-        get(tally, place(LONGEST, 29, 36)),
-    );
-    line(b"longest total: ", get(tally, place(LONGEST, 35, 36)));
+// The longest operation that finished at a phase.
+fn one_longest(rt: &impl Print, tally: &[u64], text: &str, phase: u32) -> io::Result<()> {
+    line(rt, text, get(tally, place(LONGEST, phase, 36)))
 }
 
-fn summary(tally: &[u64]) {
-    line(b"seed: ", get(tally, SEED));
-    line(b"rounds: ", get(tally, ROUNDS));
-    line(b"catalogues made: ", get(tally, CATALOGUES));
-    line(b"answers compared: ", get(tally, COMPARED));
-    line(b"answers that differ: ", get(tally, DIFFER));
+fn longest(rt: &impl Print, tally: &[u64]) -> io::Result<()> {
+    one_longest(rt, tally, "longest vRead: ", 5)?;
+    one_longest(rt, tally, "longest vCAS that ended at 43: ", 10)?;
+    one_longest(rt, tally, "longest vCAS that changed its item: ", 16)?;
+    one_longest(rt, tally, "longest vCAS that lost: ", 22)?;
+    one_longest(rt, tally, "longest takeSnapshot: ", 24)?;
+    one_longest(rt, tally, "longest readSnapshot: ", 29)?;
+    one_longest(rt, tally, "longest total: ", 35)
+}
+
+fn summary(rt: &impl Print, tally: &[u64]) -> io::Result<()> {
+    line(rt, "seed: ", get(tally, SEED))?;
+    line(rt, "rounds: ", get(tally, ROUNDS))?;
+    line(rt, "catalogues made: ", get(tally, CATALOGUES))?;
+    line(rt, "answers compared: ", get(tally, COMPARED))?;
+    line(rt, "answers that differ: ", get(tally, DIFFER))?;
     line(
-        b"first difference at answer (0: none): ",
+        rt,
+        "first difference at answer (0: none): ",
         get(tally, FIRST_AT),
-    );
+    )
 }
 
-fn coverage(tally: &[u64]) {
-    line(b"phases entered, of 36: ", counted(tally, PHASES, 36));
-    line(b"moves met, of the 56 that there are: ", moves_met(tally));
+fn coverage(rt: &impl Print, tally: &[u64]) -> io::Result<()> {
+    line(rt, "phases entered, of 36: ", counted(tally, PHASES, 36))?;
     line(
-        b"moves met, of all pairs of phases: ",
+        rt,
+        "moves met, of the 56 that there are: ",
+        moves_met(tally),
+    )?;
+    line(
+        rt,
+        "moves met, of all pairs of phases: ",
         counted(tally, MOVES, 1296),
-    );
-    line(b"refusals met, of 12: ", counted(tally, REFUSALS, 16));
-    line(b"workers abandoned: ", get(tally, ABANDONS));
+    )?;
+    line(rt, "refusals met, of 12: ", counted(tally, REFUSALS, 16))?;
+    line(rt, "workers abandoned: ", get(tally, ABANDONS))?;
     line(
-        b"phases at which one was, of 35: ",
+        rt,
+        "phases at which one was, of 35: ",
         counted(tally, ABANDONED, 36),
-    );
+    )
 }
 
-// The report; where its end can't be written, a word on standard error says so.
-pub fn report(tally: &[u64]) {
-    summary(tally);
-    coverage(tally);
-    longest(tally);
-    rows(tally, b"refusal ", REFUSALS, 1, 13);
-    rows(tally, b"phase ", PHASES, 0, 36);
-    rows(tally, b"abandoned at phase ", ABANDONED, 1, 36);
-    moves(tally);
-    let is_written = io::write_all(STDOUT_FILENO, b"end of the report\n");
-    if !is_written {
-        os::fail(b"soak: standard output");
+fn print_report(rt: &impl Print, tally: &[u64]) -> io::Result<()> {
+    summary(rt, tally)?;
+    coverage(rt, tally)?;
+    longest(rt, tally)?;
+    rows(rt, tally, "refusal ", REFUSALS, 1, 13)?;
+    rows(rt, tally, "phase ", PHASES, 0, 36)?;
+    rows(rt, tally, "abandoned at phase ", ABANDONED, 1, 36)?;
+    moves(rt, tally)?;
+    println!(rt; "end of the report")
+}
+
+// The report; where it can't be written to its end, a word on standard error says so, and the error is returned.
+pub fn report(rt: &(impl Print + Eprint), tally: &[u64]) -> io::Result<()> {
+    let printed = print_report(rt, tally);
+    if let Err(e) = &printed {
+        let _ = eprintln!(rt; "soak: standard output: {e}");
     }
+    printed
 }
 
-// The line of a long run on standard error.
-pub fn tell_progress(tally: &[u64], left: u64) {
-    io::write_all(STDERR_FILENO, b"soak: calls left ");
-    io::print_decimal(STDERR_FILENO, left);
-    io::write_all(STDERR_FILENO, b", answers compared ");
-    io::print_decimal(STDERR_FILENO, get(tally, COMPARED));
-    io::write_all(STDERR_FILENO, b", differ ");
-    io::print_decimal(STDERR_FILENO, get(tally, DIFFER));
-    io::write_all(STDERR_FILENO, b"\n");
+// The line of a long run on standard error; one that can't be written is let go.
+pub fn tell_progress(rt: &impl Eprint, tally: &[u64], left: u64) {
+    let compared = get(tally, COMPARED);
+    let differ = get(tally, DIFFER);
+    let _ = eprintln!(rt; "soak: calls left {left}, answers compared {compared}, differ {differ}");
 }
