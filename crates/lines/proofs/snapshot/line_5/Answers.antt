@@ -1,0 +1,24 @@
+use mathlib.Core.Path.{◌≡◌, ◌∙◌, ap, sym}
+use mathlib.Core.List.{[], ◌∷◌}
+use Prim.Native.Nat.{◌+◌, ◌*◌, ◌<◌, ◌≤◌}
+use lib.ListN.{length, get_or}
+use lib.ListN.{length-set}
+use native.Mathlib.Omega.{arith}
+use borrow.Author.Tests.{eq-eqb, ne_eqb, lt-ltb, le-ltb, le-leb, lt-leb}
+use Rattle.endings.specs.Laws.{met_if, met_else, refuses, node_word}
+use Rattle.definitions.specs.Lines.{line_5}
+use borrow.Author.Rules.{rules}
+use Rattle.lines.proofs.snapshot.line_5.Goals as goal
+
+
+
+pub returns-then-words : goal.returns-then-words
+unfolding line_5
+returns-then-words c = met_if _ (le-leb _ _ c.if-words.true) (record { answers = c.end_with.ensures.0; leaves = c.end_with.ensures.1 })
+
+pub returns : goal.returns
+unfolding line_5
+returns c = met_else _ (lt-leb _ _ c.if-words.false) (record { answers = c.go_on.ensures.0; leaves = c.go_on.ensures.1 })
+
+-- ?? same_length
+-- ?? same-length-2
