@@ -1,0 +1,15 @@
+use mathlib.Core.Path.{◌∙◌, ap}
+use lib.ListN.{length}
+use Rattle.definitions.specs.Lines.{line_21}
+use native.Mathlib.Omega.{arith}
+use lib.ListN.{length-set}
+use borrow.Author.Rules.{rules}
+use Rattle.help.proofs.line_21.Goals as goal
+
+
+
+pub returns : goal.returns
+unfolding line_21
+returns c = record { answers = c.go_on.ensures.0; leaves = c.go_on.ensures.1 }
+
+-- ?? same_length
