@@ -6,7 +6,7 @@ use std::io;
 pub const ABANDON: u32 = 9;
 
 // A call by its frame's operation, 1 to 8, or as an abandon, and its arguments, with how many words are lent to it.
-#[derive(Drop)]
+#[derive(Clone, Copy)]
 pub struct Call {
     pub operation: u32,
     pub a: u32,
