@@ -1,5 +1,7 @@
 // The program's arguments: what cannot be a seed or a number of rounds is refused, so that a run is never another than was asked for.
-use libc::{STDERR_FILENO, STDOUT_FILENO};
+use std::env::FillError;
+use std::io;
+use std::rt::Env;
 
 const DEFAULT_SEED: u64 = 0;
 
@@ -8,6 +10,8 @@ const DEFAULT_ROUNDS: u64 = 10000000;
 const MOST_SEED: u64 = 4294967295;
 
 const MOST_ROUNDS: u64 = 1000000000000;
+// The longest argument that is read; a longer one is refused.
+const LONGEST_ARGUMENT: usize = 4096;
 // What stands for a text that is no number, or one beyond any argument's range.
 const NO_NUMBER: u64 = 18446744073709551615;
 
@@ -47,22 +51,28 @@ fn number_in(text: &[u8]) -> u64 {
 }
 
 // Argument i as a number, or what stands in for it where it is missing.
-fn argument(i: usize, otherwise: u64) -> u64 {
-    if os::arg_count() <= i {
-        return otherwise;
+fn argument(rt: &impl Env, i: usize, otherwise: u64) -> u64 {
+    let mut text = [0u8; LONGEST_ARGUMENT];
+    match rt.arg(i, &mut text) {
+        Ok(n) => number_in(&text[..n]),
+        Err(FillError::NotPresent) => otherwise,
+        Err(FillError::TooLong) => NO_NUMBER,
     }
-    let mut text = io::buffer();
-    let n = os::arg(i, &mut text);
-    if os::errno() != 0 {
-        return NO_NUMBER;
-    }
-    number_in(&text[..n])
 }
 
-pub fn read() -> Arguments {
-    let seed = argument(1, DEFAULT_SEED);
-    let rounds = argument(2, DEFAULT_ROUNDS);
-    let good = (os::arg_count() <= 3) & (seed <= MOST_SEED) & (rounds <= MOST_ROUNDS);
+// Whether argument i is missing.
+fn is_missing(rt: &impl Env, i: usize) -> bool {
+    let mut text = [0u8; LONGEST_ARGUMENT];
+    match rt.arg(i, &mut text) {
+        Err(FillError::NotPresent) => true,
+        _ => false,
+    }
+}
+
+pub fn read(rt: &impl Env) -> Arguments {
+    let seed = argument(rt, 1, DEFAULT_SEED);
+    let rounds = argument(rt, 2, DEFAULT_ROUNDS);
+    let good = is_missing(rt, 3) & (seed <= MOST_SEED) & (rounds <= MOST_ROUNDS);
     Arguments { good, seed, rounds }
 }
 
@@ -83,31 +93,29 @@ fn is_help(text: &[u8]) -> bool {
 }
 
 // Whether argument i is one of these two.
-fn asks_at(i: usize) -> bool {
-    let mut text = io::buffer();
-    let n = os::arg(i, &mut text);
-    is_help(&text[..n])
+fn asks_at(rt: &impl Env, i: usize) -> bool {
+    let mut text = [0u8; LONGEST_ARGUMENT];
+    match rt.arg(i, &mut text) {
+        Ok(n) => is_help(&text[..n]),
+        Err(_) => false,
+    }
 }
 
 // As the first or the second argument.
-pub fn help_asked() -> bool {
-    let first = asks_at(1);
-    let second = asks_at(2);
+pub fn help_asked(rt: &impl Env) -> bool {
+    let first = asks_at(rt, 1);
+    let second = asks_at(rt, 2);
     first | second
 }
 
-fn write_usage(to: i32) {
-    io::write_all(to, b"usage: soak [SEED [ROUNDS]]\n");
-    io::write_all(
-        to,
-        b"SEED is 0 to 4294967295 (0 unless said), ROUNDS 0 to 1000000000000 (10000000 unless said), in decimal digits only\n",
-    );
+const USAGE: &str =
+    "usage: soak [SEED [ROUNDS]]\nSEED is 0 to 4294967295 (0 unless said), ROUNDS 0 to 1000000000000 (10000000 unless said), in decimal digits only";
+
+pub fn print_usage(rt: &impl Print) -> io::Result<()> {
+    println!(rt; "{USAGE}")
 }
 
-pub fn print_usage() {
-    write_usage(STDOUT_FILENO);
-}
-
-pub fn complain() {
-    write_usage(STDERR_FILENO);
+// The usage on standard error; where it can't be written, that is let go.
+pub fn complain(rt: &impl Eprint) {
+    let _ = eprintln!(rt; "{USAGE}");
 }

@@ -3,6 +3,7 @@ ghost use Rattle.std.specs.Prelude.{◌≡◌, ◌&&◌, ◌==◌};
 
 use definitions::Answer;
 use model::setup::Reply;
+use std::io;
 use tables::fields::{HEADER_WORDS, PHASE, WORKER_WORDS};
 use tally::draws::size_of;
 use tally::frames;
@@ -114,7 +115,7 @@ fn note_abandon(tally: &mut [u64], before: u32) {
 }
 
 // A start that was accepted, or a step that advanced an operation, took the worker from a phase to a phase. An abandon is counted apart.
-fn note_move(tally: &mut [u64], call: Call, answer: Answer, before: u32, after: u32) {
+fn note_move(tally: &mut [u64], call: Call, answer: &Answer, before: u32, after: u32) {
     if call.operation < 3 {
         return;
     }
@@ -134,10 +135,10 @@ fn note_move(tally: &mut [u64], call: Call, answer: Answer, before: u32, after: 
     }
 }
 
-fn note_answer(tally: &mut [u64], call: Call, answer: Answer) {
+fn note_answer(tally: &mut [u64], call: Call, code: u32) {
     count(tally, COMPARED);
-    if 16 < answer.code {
-        count(tally, place(REFUSALS, answer.code - 16, 16));
+    if 16 < code {
+        count(tally, place(REFUSALS, code - 16, 16));
         return;
     }
     if call.operation == 1 {
@@ -145,49 +146,56 @@ fn note_answer(tally: &mut [u64], call: Call, answer: Answer) {
     }
 }
 
-// The first difference is shown with the calls that lead to it; after any, the catalogue is given up.
-fn note_difference(log: &[u32], tally: &mut [u64], answer: Answer, reply: Reply) {
+// The first difference is shown with the calls that lead to it; after any, the catalogue is given up. An answer is its code, value and steps.
+fn note_difference(
+    rt: &impl Print,
+    log: &[u32],
+    tally: &mut [u64],
+    code: [u64; 3],
+    model: [u64; 3],
+) -> io::Result<()> {
     count(tally, DIFFER);
     put(tally, LIFE, 0);
     if get(tally, DIFFER) == 1 {
         put(tally, FIRST_AT, get(tally, COMPARED));
-        frames::show(log, tally);
-        frames::show_answer(
-            b"the code answers  ",
-            answer.code as u64,
-            answer.value,
-            answer.steps as u64,
-        );
-        frames::show_answer(
-            b"the model answers ",
-            reply.code as u64,
-            reply.value as u64,
-            reply.steps as u64,
-        );
+        frames::show(rt, log, tally)?;
+        frames::show_answer(rt, b"the code answers  ", code[0], code[1], code[2])?;
+        frames::show_answer(rt, b"the model answers ", model[0], model[1], model[2])?;
     }
+    Ok(())
 }
 
-fn compare(log: &[u32], tally: &mut [u64], call: Call, answer: Answer, reply: Reply) {
+fn compare(
+    rt: &impl Print,
+    log: &[u32],
+    tally: &mut [u64],
+    call: Call,
+    answer: Answer,
+    reply: Reply,
+) -> io::Result<()> {
     lower(tally, LIFE);
-    note_answer(tally, call, answer);
+    note_answer(tally, call, answer.code);
+    let code = [answer.code as u64, answer.value, answer.steps as u64];
+    let model = [reply.code as u64, reply.value as u64, reply.steps as u64];
     if agree(answer, reply) {
-        return;
+        return Ok(());
     }
-    note_difference(log, tally, answer, reply);
+    note_difference(rt, log, tally, code, model)
 }
 
 pub fn both(
+    rt: &impl Print,
     words: &mut [u32],
     memory: &mut [usize],
     log: &mut [u32],
     tally: &mut [u64],
     call: Call,
-) {
+) -> io::Result<()> {
     let before = phase_of(words, call.a);
     let answer = code_answers(words, call);
     let after = phase_of(words, call.a);
     let reply = model_answers(memory, call);
     frames::log_call(log, tally, call);
-    note_move(tally, call, answer, before, after);
-    compare(log, tally, call, answer, reply);
+    note_move(tally, call, &answer, before, after);
+    compare(rt, log, tally, call, answer, reply)
 }

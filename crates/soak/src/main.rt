@@ -1,11 +1,14 @@
 // soak SEED ROUNDS: draws calls by document 01's generator, makes each on the code and on the model, and compares every
 // answer. The report is a function of the two arguments.
+#![tactic(auto)]
+
 mod arguments;
 mod both;
 mod longest;
 mod play;
 
 use model::memory::MEMORY;
+use std::io;
 use tally::notes::{NOTES, ROUNDS, SEED, STATE, put};
 
 const LENT: usize = 16384;
@@ -13,61 +16,71 @@ const LENT: usize = 16384;
 const LOG: usize = 312000;
 
 // A line on standard error, every few seconds of a long run.
-fn tell_progress(tally: &[u64], left: u64) {
+fn tell_progress(rt: &impl Eprint, tally: &[u64], left: u64) {
     if left % 16777216 == 16777215 {
-        tally::report::tell_progress(tally, left);
+        tally::report::tell_progress(rt, tally, left);
     }
 }
 
 // The calls before any make, the drawn ones, and those of the longest total.
 fn all_calls(
+    rt: &(impl Print + Eprint),
     words: &mut [u32],
     memory: &mut [usize],
     log: &mut [u32],
     tally: &mut [u64],
     drawn: u64,
-) {
+) -> io::Result<()> {
     let mut left = play::calls_in_all(drawn);
     while 0 < left {
         left -= 1;
         let call = play::call_at(memory, tally, drawn, left);
-        both::both(words, memory, log, tally, call);
-        tell_progress(tally, left);
+        both::both(rt, words, memory, log, tally, call)?;
+        tell_progress(rt, tally, left);
     }
+    Ok(())
 }
 
 fn soak(
+    rt: &(impl Print + Eprint),
     words: &mut [u32],
     memory: &mut [usize],
     log: &mut [u32],
     tally: &mut [u64],
     seed: u64,
     rounds: u64,
-) {
+) -> io::Result<()> {
     put(tally, SEED, seed);
     put(tally, ROUNDS, rounds);
     put(tally, STATE, seed);
-    all_calls(words, memory, log, tally, rounds);
-    tally::report::report(tally);
+    all_calls(rt, words, memory, log, tally, rounds)?;
+    tally::report::report(rt, tally)
 }
 
-fn run(seed: u64, rounds: u64) {
+fn run(rt: &(impl Print + Eprint), seed: u64, rounds: u64) -> io::Result<()> {
     let mut words = [0u32; LENT];
     let mut memory = [0usize; MEMORY];
     let mut log = [0u32; LOG];
     let mut tally = [0u64; NOTES];
-    soak(&mut words, &mut memory, &mut log, &mut tally, seed, rounds);
+    soak(
+        rt,
+        &mut words,
+        &mut memory,
+        &mut log,
+        &mut tally,
+        seed,
+        rounds,
+    )
 }
 
-fn main() {
-    if arguments::help_asked() {
-        arguments::print_usage();
-        return;
+fn main(rt: HostRuntime) -> io::Result<()> {
+    if arguments::help_asked(&rt) {
+        return arguments::print_usage(&rt);
     }
-    let given = arguments::read();
+    let given = arguments::read(&rt);
     if !given.good {
-        arguments::complain();
-        return;
+        arguments::complain(&rt);
+        return Ok(());
     }
-    run(given.seed, given.rounds);
+    run(&rt, given.seed, given.rounds)
 }
