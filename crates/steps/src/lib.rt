@@ -1,4 +1,5 @@
 // One step of a worker.
+#![tactic(auto)]
 pub mod dispatch;
 
 ghost use Rattle.std.specs.Prelude.{◌≡◌, false, ◌&&◌, ◌+◌, ◌*◌, get_or};

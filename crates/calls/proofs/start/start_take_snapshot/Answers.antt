@@ -1,0 +1,36 @@
+use mathlib.Core.Path.{◌≡◌, refl, ◌∙◌, ap, sym}
+use mathlib.Core.Bool.{true, false}
+use mathlib.Core.List.{[], ◌∷◌, ◌++◌}
+use Prim.Native.Nat.{ℕ, ◌+◌, ◌*◌, ◌-◌, ◌<◌, ◌≤◌}
+use lib.ListN.{length, get_or}
+use native.Mathlib.Omega.{arith}
+use borrow.Author.Tests.{eq-eqb, ne_eqb, lt-ltb, le-ltb, le-leb, lt-leb}
+use Rattle.definitions.specs.Cells.{cells_at, cells_of, items_offset, nodes_offset, record_of}
+use Rattle.endings.specs.Laws.{met_if, met_else, refuses}
+use Rattle.facts.specs.Refusals.{done, met_first, met_past, worker_refusals}
+use Rattle.facts.specs.Facts.{Header, header_sound}
+use Rattle.calls.specs.Starts.{free, held, here, later, header_there, worker_there, registered_item}
+use Rattle.definitions.specs.Answers.{accepts}
+use Rattle.definitions.specs.Calls.{outcome, starting_take_snapshot}
+use borrow.Author.Rules.{rules}
+use Rattle.calls.proofs.start.start_take_snapshot.Goals as goal
+
+
+
+pub returns-then-is_held : goal.returns-then-is_held
+unfolding outcome starting_take_snapshot
+returns-then-is_held c = let x = c.args in let ws = x.words.now in
+    done {ws = ws} (met_first (worker_refusals ws x.worker) [] (accepts 0 (record_of x.worker 23 0 0 0 0 0 0)) c.worker_refusal-number.ensures.0 (held c.is_held.ensures c.if-is_held.true c.worker_refusal-number.ensures.0) c.refuse.ensures)
+
+pub write_record-requires : goal.write_record-requires
+write_record-requires c = let x = c.args in let ws = x.words.now in
+    omega (arith, header_there ws x.worker refl (free c.is_held.ensures c.if-is_held.false), worker_there ws x.worker refl (free c.is_held.ensures c.if-is_held.false))
+
+pub returns : goal.returns
+unfolding outcome starting_take_snapshot
+returns c = let x = c.args in let ws = x.words.now in
+    done {ws = ws} (met_past (worker_refusals ws x.worker) [] (accepts 0 (record_of x.worker 23 0 0 0 0 0 0)) refl (free c.is_held.ensures c.if-is_held.false) refl
+    (record { answers = c.accept.ensures; leaves = c.write_record.ensures }))
+
+-- ?? same_length
+-- ?? same-length-2

@@ -1,0 +1,22 @@
+use mathlib.Core.Path.{◌≡◌, ◌∙◌, ap, sym}
+use Prim.Native.Nat.{◌+◌, ◌*◌}
+use lib.ListN.{get_or}
+use native.Mathlib.Omega.{arith}
+use borrow.Author.Tests.{eq-eqb, ne_eqb}
+use Rattle.definitions.specs.Cells.{cells_at}
+use Rattle.facts.specs.Facts.{node_kept, new_node_kept, seen_kept, item_there, sum_small}
+use borrow.Author.Rules.{rules}
+use Rattle.steps.proofs.dispatch.run_line_32.Goals as goal
+
+
+
+pub total_32-requires : goal.total_32-requires
+total_32-requires c = let x = c.args in let h = c.requires in
+    (h.0.ready, item_there x.row (cells_at x.items_at x.nodes_at x.words.now) x.w h.0.arguments h.1 (λ q. let e = h.2 in omega (arith, q, e)))
+
+pub fetch_head-requires : goal.fetch_head-requires
+fetch_head-requires c = let x = c.args in let h = c.requires in
+    (h.0.ready, item_there x.row (cells_at x.items_at x.nodes_at x.words.now) x.w h.0.arguments h.1 (λ q. let e = h.2 in omega (arith, q, e)))
+
+-- ?? same_length
+-- ?? same-length-2

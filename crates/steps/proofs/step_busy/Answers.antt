@@ -1,0 +1,25 @@
+use mathlib.Core.Path.{◌≡◌, refl, ◌∙◌, ap, sym}
+use mathlib.Core.Bool.{true, false}
+use Prim.Native.Nat.{◌+◌, ◌*◌}
+use lib.ListN.{get_or}
+use borrow.Author.Tests.{eq-eqb, ne_eqb, le-leb, lt-leb}
+use Rattle.definitions.specs.Cells.{cells_of, items_offset, nodes_offset}
+use Rattle.endings.specs.Laws.{met_if, met_else, refuses}
+use Rattle.steps.specs.Dispatch.{fit, row_operation, row_snapshot, row_other, line_tied}
+use borrow.Author.Rules.{rules}
+use Rattle.steps.proofs.step_busy.Goals as goal
+
+
+
+pub run_row-requires : goal.run_row-requires
+run_row-requires c = let x = c.args in let h = c.requires in
+    (fit x.words.now x.w h.0 h.1 h.2, row_operation x.words.now x.w h.1 h.2, row_snapshot x.words.now x.w h.1 h.2, row_other x.words.now x.w h.1 h.2)
+
+pub returns : goal.returns
+returns c = let x = c.args in
+    rw (line_tied (get_or x.words.now (16 + 16 * x.w + 0) 0), ← c.requires.2) (met_else _ (sym c.its_item_is_damaged.ensures ∙ c.if-its_item_is_damaged.false) c.run_row.ensures)
+
+-- ?? cast-items-at
+-- ?? cast-nodes-at
+-- ?? same_length
+-- ?? same-length-2
