@@ -1,0 +1,32 @@
+use mathlib.Core.Path.{◌∙◌}
+use mathlib.Core.Logic.{inl, inr, ⊎_elim}
+use Prim.Native.Nat.{ℕ}
+use borrow.Author.Tests.{lt-ltb, le-ltb}
+use Rattle.definitions.specs.Cells.{cells_at}
+use Rattle.abandon.specs.ByPhase.{arguments_by, total_by}
+use borrow.Author.Rules.{rules}
+use Rattle.abandon.proofs.record.arguments_are_damaged.Goals as goal
+
+
+
+pub returns-then-phase-lt-V_CAS_START : goal.returns-then-phase-lt-V_CAS_START
+returns-then-phase-lt-V_CAS_START c = λ a b. let x = c.args in
+    arguments_by x.phase c.requires.1 c.requires.2 (cells_at a b x.words.now) x.w 1 (rw (lt-ltb _ _ c.if-phase-lt-V_CAS_START.true))
+
+pub returns-then-phase-lt-TAKE_SNAPSHOT_START : goal.returns-then-phase-lt-TAKE_SNAPSHOT_START
+returns-then-phase-lt-TAKE_SNAPSHOT_START c = λ a b. let x = c.args in
+    arguments_by x.phase c.requires.1 c.requires.2 (cells_at a b x.words.now) x.w 2 (rw (le-ltb _ _ c.if-phase-lt-V_CAS_START.false, lt-ltb _ _ c.if-phase-lt-TAKE_SNAPSHOT_START.true))
+
+pub returns-then-phase-lt-READ_SNAPSHOT_START : goal.returns-then-phase-lt-READ_SNAPSHOT_START
+returns-then-phase-lt-READ_SNAPSHOT_START c = λ a b. let x = c.args in
+    arguments_by x.phase c.requires.1 c.requires.2 (cells_at a b x.words.now) x.w 3 (rw (le-ltb _ _ c.if-phase-lt-V_CAS_START.false, le-ltb _ _ c.if-phase-lt-TAKE_SNAPSHOT_START.false, lt-ltb _ _ c.if-phase-lt-READ_SNAPSHOT_START.true))
+
+pub returns-then-phase-lt-TOTAL_START : goal.returns-then-phase-lt-TOTAL_START
+returns-then-phase-lt-TOTAL_START c = λ a b. let x = c.args in
+    arguments_by x.phase c.requires.1 c.requires.2 (cells_at a b x.words.now) x.w 4 (rw (le-ltb _ _ c.if-phase-lt-V_CAS_START.false, le-ltb _ _ c.if-phase-lt-TAKE_SNAPSHOT_START.false, le-ltb _ _ c.if-phase-lt-READ_SNAPSHOT_START.false, lt-ltb _ _ c.if-phase-lt-TOTAL_START.true))
+
+pub returns : goal.returns
+returns c = λ a b. let x = c.args in
+    c.total_is_damaged.ensures a b
+    ∙ total_by x.phase c.if-phase-eq-CLOSING_PHASE.line c.requires.1 c.if-phase-lt-TOTAL_START.false
+    (⊎_elim (λ t. inl (t.0.taken, t.1)) (λ t. inr (t.0.left, t.1)) c.if-phase-eq-CLOSING_PHASE.branch) (cells_at a b x.words.now) x.w
