@@ -1,11 +1,12 @@
 use mathlib.Core.Path.{◌∙◌}
-use mathlib.Core.Logic.{inl, inr, ⊎_elim}
+use mathlib.Core.Logic.{inl, inr}
 use Prim.Native.Nat.{ℕ}
 use borrow.Author.Tests.{lt-ltb, le-ltb}
 use Rattle.definitions.specs.Cells.{cells_at}
 use Rattle.abandon.specs.ByPhase.{arguments_by, total_by}
 use borrow.Author.Rules.{rules}
 use Rattle.abandon.proofs.record.arguments_are_damaged.Goals as goal
+use Rattle.abandon.proofs.record.arguments_are_damaged.Goals.{then-phase-eq-CLOSING_PHASE, else-phase-eq-CLOSING_PHASE}
 
 
 
@@ -29,4 +30,7 @@ pub returns : goal.returns
 returns c = λ a b. let x = c.args in
     c.total_is_damaged.ensures a b
     ∙ total_by x.phase c.if-phase-eq-CLOSING_PHASE.line c.requires.1 c.if-phase-lt-TOTAL_START.false
-    (⊎_elim (λ t. inl (t.0.taken, t.1)) (λ t. inr (t.0.left, t.1)) c.if-phase-eq-CLOSING_PHASE.branch) (cells_at a b x.words.now) x.w
+    (elim c.if-phase-eq-CLOSING_PHASE.branch [
+      then-phase-eq-CLOSING_PHASE t ↦ inl (t.if-phase-eq-CLOSING_PHASE.true, t.line-is)
+      | else-phase-eq-CLOSING_PHASE t ↦ inr (t.if-phase-eq-CLOSING_PHASE.false, t.line-is)
+    ]) (cells_at a b x.words.now) x.w
