@@ -37,8 +37,8 @@ use Rattle.history.specs.Notes.{
 }
 use Rattle.history.specs.Statements.{In, fate_of, Executed, Abandoned, ChangeInstant, TellsOf}
 use Rattle.history.specs.Effects.{insert, last_published, effects}
-use Rattle.history.specs.Immediately.{same_event}
-use Rattle.history.specs.Examples.{left_behind, left_behind_order}
+use Rattle.history.proofs.Immediately.{same_event}
+use Rattle.history.proofs.Examples.{left_behind, left_behind_order}
 use Rattle.order.specs.WorkedRuns.{told_of, Plain, promised, order_of_theorem, same_order, answered}
 
 -- the run, note by note, the newest first

@@ -62,9 +62,9 @@ use Rattle.history.specs.Notes.{
 }
 use Rattle.history.specs.Statements.{In, Falling, fate_of, Executed, Stamped, HeadInstant, Instant, TellsOf}
 use Rattle.history.specs.Effects.{insert, last_published, effects}
-use Rattle.history.specs.Immediately.{other_line}
-use Rattle.history.specs.Examples.{helped}
-use Rattle.history.specs.Examples as Examples
+use Rattle.history.proofs.Immediately.{other_line}
+use Rattle.history.proofs.Examples.{helped}
+use Rattle.history.proofs.Examples as Examples
 use Rattle.order.specs.WorkedRuns.{told_of, Plain, promised, order_of_theorem, same_order, answered, differ}
 use Rattle.order.specs.WorkedTimes.{only_one, executed_at, listed, changed_at, snapshot_time, change_time}
 

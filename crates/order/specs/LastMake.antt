@@ -6,7 +6,7 @@ use Rattle.std.proofs.lemmas.Bool.{eqb-false}
 use Rattle.definitions.specs.Calls.{Call, outcome}
 use Rattle.history.specs.Notes.{Note, told, words_after, Typed, RunCall, History, made, called}
 use Rattle.history.specs.Demands.{Demands}
-use Rattle.reached.specs.Run.{no_make_call}
+use Rattle.reached.proofs.Run.{no_make_call}
 use Rattle.order.specs.Theorems.{demands}
 
 -- the arguments of every call are numbers of their types

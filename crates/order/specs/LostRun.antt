@@ -9,10 +9,10 @@ use Rattle.history.specs.Definition1.{put, v_cas}
 use Rattle.history.specs.Notes.{fetches, finds, publishes, stamps, nothing, goes_on, answers, Note, registered, started, stepped, note_by, told, words_after, notes, ledger, entered, Effect, birth, change, time}
 use Rattle.history.specs.Statements.{In, fate_of, Executed, LossInstant, CasInstant, TellsOf}
 use Rattle.history.specs.Effects.{insert, last_published, effects}
-use Rattle.history.specs.Immediately.{same_event}
-use Rattle.history.specs.EffectsRight.{effect_tag, effect_published}
-use Rattle.history.specs.Examples.{lost}
-use Rattle.history.specs.Examples as Examples
+use Rattle.history.proofs.Immediately.{same_event}
+use Rattle.history.proofs.EffectsRight.{effect_tag, effect_published}
+use Rattle.history.proofs.Examples.{lost}
+use Rattle.history.proofs.Examples as Examples
 use Rattle.order.specs.WorkedRuns.{told_of, Plain, promised, order_of_theorem, same_order, answered, differ}
 use Rattle.order.specs.WorkedTimes.{only_one, executed_at, listed, changed_at, cas_instant, change_time}
 

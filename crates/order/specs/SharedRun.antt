@@ -29,8 +29,8 @@ use Rattle.history.specs.Notes.{
 }
 use Rattle.history.specs.Statements.{In, fate_of}
 use Rattle.history.specs.Effects.{insert, last_published, effects}
-use Rattle.history.specs.Examples.{shared}
-use Rattle.history.specs.Examples as Examples
+use Rattle.history.proofs.Examples.{shared}
+use Rattle.history.proofs.Examples as Examples
 use Rattle.order.specs.WorkedRuns.{told_of, Plain, order_of_theorem, same_order, answered, differ}
 use Rattle.order.specs.WorkedTimes.{snapshot_time}
 

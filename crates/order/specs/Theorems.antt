@@ -33,19 +33,19 @@ use Rattle.history.specs.Notes.{
 use Rattle.history.specs.Effects.{effects}
 use Rattle.history.specs.Statements.{In, fate_of, Free, Promises}
 use Rattle.history.specs.Demands.{Least, numbers, StepNumbers, items_now, Asked, Applies, Demands}
-use Rattle.history.specs.Accepts.{register_starts_none, accepts}
-use Rattle.history.specs.AbandonTold as AbandonTold
-use Rattle.history.specs.Registers as Registers
-use Rattle.history.specs.LineEnds.{ends_45, ends_5, below_limit}
-use Rattle.history.specs.AnswersTold.{step_told, start_told, register_told}
-use Rattle.history.specs.Refusals.{refuses}
-use Rattle.history.specs.InWork.{always_steps}
+use Rattle.history.proofs.Accepts.{register_starts_none, accepts}
+use Rattle.history.proofs.AbandonTold as AbandonTold
+use Rattle.history.proofs.Registers as Registers
+use Rattle.history.proofs.LineEnds.{ends_45, ends_5, below_limit}
+use Rattle.history.proofs.AnswersTold.{step_told, start_told, register_told}
+use Rattle.history.proofs.Refusals.{refuses}
+use Rattle.history.proofs.InWork.{always_steps}
 use Rattle.history.specs.Machine.{Limits, Event, Catalogue, reply}
-use Rattle.history.specs.MachineNotes.{machine_note, machine_notes}
-use Rattle.history.specs.NotesOrder.{notes_order}
-use Rattle.history.specs.Promised.{promised}
-use Rattle.reached.specs.Run.{limits_of, sized_call}
-use Rattle.reached.specs.Histories.{ToldImage, told_image, machine, called_same, noted_same, formed, never_damaged, run_history, events_are}
+use Rattle.history.proofs.MachineNotes.{machine_note, machine_notes}
+use Rattle.history.proofs.NotesOrder.{notes_order}
+use Rattle.history.proofs.Promised.{promised}
+use Rattle.reached.proofs.Run.{limits_of, sized_call}
+use Rattle.reached.proofs.Histories.{ToldImage, told_image, machine, called_same, noted_same, formed, never_damaged, run_history, events_are}
 
 -- the promises of equal notes have one order
 abbrev AllPromised : List Note → Type 0

@@ -25,8 +25,8 @@ use Rattle.history.specs.Notes.{
 }
 use Rattle.history.specs.Statements.{OneOrder, Promises}
 use Rattle.history.specs.Effects.{effects}
-use Rattle.history.specs.Examples.{made, order_of}
-use Rattle.reached.specs.Run.{size_of, sized_call}
+use Rattle.history.proofs.Examples.{made, order_of}
+use Rattle.reached.proofs.Run.{size_of, sized_call}
 use Rattle.order.specs.Theorems.{demands, run_demands, run_order}
 
 -- a catalogue of three workers, one item, four nodes, four projects and counters to 16, on 80 lent words

@@ -12,7 +12,7 @@ use Rattle.frames.specs.AnswerLines.{answer_line}
 use Rattle.text.specs.Replies.{replied, answers, lent}
 use Rattle.text.specs.BeforeMake.{until_made}
 use Rattle.history.specs.Notes.{words_after, RunCall}
-use Rattle.reached.specs.Run.{size_of, typed_size}
+use Rattle.reached.proofs.Run.{size_of, typed_size}
 use Rattle.order.specs.LastMake.{NoneMade, Standing, next_call}
 use Rattle.printed.specs.Printed.{Asks, make, register, v_read, v_cas, take_snapshot, read_snapshot, total, step, Known, not_made, since_made, Answered, at_the_end, a_call, a_bad_frame, AsPromised}
 

@@ -5,7 +5,3 @@ pub mod AnyOrder
 pub mod Unchanged
 pub mod ReadLaws
 pub mod Runs
-pub mod Hollow
-pub mod Errors
-pub mod WrongAbandons
-pub mod All

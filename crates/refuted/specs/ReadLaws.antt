@@ -7,7 +7,7 @@ use Rattle.history.specs.Definition1.{read_snapshot, Object, Follows}
 use Rattle.history.specs.Tools.{by_test, put_all, and_parts}
 use Rattle.history.specs.Notes.{Deed, publishes, stamps, moves, nothing, Note, registered, Effect, birth, change, snapshot, time, object_at}
 use Rattle.history.specs.NoteParts.{deed_tag, deed_item, deed_value, note_tag}
-use Rattle.history.specs.EffectsRight.{effect_tag, effect_item}
+use Rattle.history.proofs.EffectsRight.{effect_tag, effect_item}
 use Rattle.history.specs.Statements.{In, Falling, fate_of, Finished, Executed, Stamped, Steps, FirstStamp, TellsOf, ExactRead, Promises}
 use Rattle.refuted.specs.Tests.{so_too, all_noted, every_note, LineTest, of_line, every_line}
 

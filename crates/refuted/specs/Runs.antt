@@ -6,8 +6,8 @@ use Rattle.definitions.specs.Calls.{Call}
 use Rattle.cells.specs.Made.{is_make}
 use Rattle.history.specs.Tools.{and_parts}
 use Rattle.history.specs.Notes.{Note, Catalogue, RunCallBy}
-use Rattle.history.specs.Examples.{made}
-use Rattle.reached.specs.Run.{size_of}
+use Rattle.history.proofs.Examples.{made}
+use Rattle.reached.proofs.Run.{size_of}
 use Rattle.history.specs.Demands.{DemandsBy}
 use Rattle.refuted.specs.Catalogues.{words_by, notes_by, start_by, Run_by, Refuted}
 

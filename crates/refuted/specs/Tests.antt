@@ -5,7 +5,7 @@ use Rattle.history.specs.Definition1.{Follows}
 use Rattle.history.specs.Tools.{Split, split, Same, same?, and_parts}
 use Rattle.history.specs.Notes.{Deed, Ending, Note, quiet, registered, started, stepped, abandoned, refused, Fate, ledger}
 use Rattle.history.specs.NoteParts.{ending_tag}
-use Rattle.history.specs.Abandons.{no_operation, none_later}
+use Rattle.history.proofs.Abandons.{no_operation, none_later}
 use Rattle.history.specs.Statements.{fate_of, Free, Executed}
 
 -- ---- tests

@@ -1,0 +1,4 @@
+pub mod Hollow
+pub mod Errors
+pub mod WrongAbandons
+pub mod All
