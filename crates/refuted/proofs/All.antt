@@ -3,19 +3,19 @@
 -- | Wrong catalogue (Wrong) | Its run | What is false of it |
 -- |---|---|---|
 -- | refuses everything | none, a fresh catalogue | `accepted`: a free worker's takeSnapshot is refused |
--- | a constant answer | a vRead of an item registered with 2 answers 1 | `one-order`: by Definition 1 it is 2 |
+-- | a constant answer | a vRead of an item registered with 2 answers 1 | `one_order`: by Definition 1 it is 2 |
 -- | steps alter nothing | a vRead is stepped five times | `progress`: it goes on after the most steps that it may take |
--- | an invented step count | a vRead's first step | `every-step`: it answers 2, and has executed one line |
--- | the whole operation in its first step | a vRead beside a vCAS that has executed line 41 | `one-order`: it answers the vCAS's new value |
--- | stamping before 46 publishes | a takeSnapshot and a vRead between 45 and 46, then a readSnapshot | `one-order`: it answers a change that came later |
--- | help left out in vRead | a vRead of a node without stamp; a takeSnapshot; then the stamp | `one-order`: at its handle is not what was read before |
--- | help left out in a lost vCAS | the same with a vCAS that lost to that node | `one-order`: at the handle is the value that it did not find |
+-- | an invented step count | a vRead's first step | `every_step`: it answers 2, and has executed one line |
+-- | the whole operation in its first step | a vRead beside a vCAS that has executed line 41 | `one_order`: it answers the vCAS's new value |
+-- | stamping before 46 publishes | a takeSnapshot and a vRead between 45 and 46, then a readSnapshot | `one_order`: it answers a change that came later |
+-- | help left out in vRead | a vRead of a node without stamp; a takeSnapshot; then the stamp | `one_order`: at its handle is not what was read before |
+-- | help left out in a lost vCAS | the same with a vCAS that lost to that node | `one_order`: at the handle is the value that it did not find |
 -- | 22 overwrites a valid stamp | document 01's run 8 | `reads`: the read answers 1, and the item was charged to 2 when the counter left 0 |
 -- | C tested at the start | C = 1 and handle 0 taken | `accepted`: a free worker's takeSnapshot is refused |
--- | 34 stops only strictly below | a change of stamp 1, read at handle 1 | `reads`: it answers the value before; at handle 0, `never-2` |
--- | an abandon that keeps the node (WrongAbandons) | three abandons at 46 | `no_Node`: 11 with one of four nodes in use |
+-- | 34 stops only strictly below | a change of stamp 1, read at handle 1 | `reads`: it answers the value before; at handle 0, `never_2` |
+-- | an abandon that keeps the node (WrongAbandons) | three abandons at 46 | `no_node`: 11 with one of four nodes in use |
 -- | an abandon that moves the counter | an abandoned takeSnapshot | `accepted`: a total is accepted at a handle that the counter has not left |
--- | an abandon that withdraws a published change, or stamps it | a change abandoned after 46, then another | `stamped-first`: published over a node that no line 22 stamped |
+-- | an abandon that withdraws a published change, or stamps it | a change abandoned after 46, then another | `stamped_first`: published over a node that no line 22 stamped |
 --
 -- Stamping before 46 and help left out break Definition 1 in any order (`AnyOrder`), whatever the instants. The whole operation in its first step is
 -- ruled out by document 01's instants: no change has taken effect that the vRead could have read.
@@ -113,7 +113,7 @@ all_refuted = (
   ),
 )
 
--- No run refutes `outcome`: that is demands 2 and 3, for every list of calls (`run-demands`).
+-- No run refutes `outcome`: that is demands 2 and 3, for every list of calls (`run_demands`).
 pub outcome_not_refuted : Refuted outcome → ⊥
 outcome_not_refuted r = r.broken told
   where

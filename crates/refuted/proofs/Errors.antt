@@ -303,7 +303,7 @@ stops_strictly_below_refuted =
     refuted_by stops_strictly_below 16 read_at_1 refl tt
     (λ d. passed_not_exact d.effects (subst (λ (l : List Note). Promises l d.effects) passed_told d.promises))
 
--- And at handle 0 it passes the item's birth, and then there is no older node: refusal 2, against `never-2`.
+-- And at handle 0 it passes the item's birth, and then there is no older node: refusal 2, against `never_2`.
 
 abbrev read_at_0 : List Call
 read_at_0 = Call.register 1 100 ∷ Call.take_snapshot 0 ∷ steps 0 2 ++ (Call.read_snapshot 0 0 0 ∷ steps 0 2)

@@ -106,7 +106,7 @@ steps_alter_nothing_refuted =
     refuted_by steps_alter_nothing 16 five_steps refl tt
     (λ d. unaltered_no_progress d.effects (subst (λ (l : List Note). Promises l d.effects) unaltered_told d.promises))
 
--- ---- an invented step count: the first step of a vRead answers 2, against `every-step`
+-- ---- an invented step count: the first step of a vRead answers 2, against `every_step`
 
 abbrev started_read : List Call
 started_read = Call.register 1 100 ∷ Call.v_read 0 0 ∷ []
