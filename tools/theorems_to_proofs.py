@@ -1,17 +1,19 @@
 #!/usr/bin/env python3
-"""usage: python3 tools/theorems_to_proofs.py, at the top of the repository.
+"""usage: python3 tools/theorems_to_proofs.py [pages], at the top of the repository.
 
 Moves the files of theorems that rest on a definition which a must-fail edit changes from a crate's specs/ to its proofs/, whole and under their names, and
 turns each import of them. (rt takes an edit as refused only where no other declaration in specs/ rests on the theorem that falls.) A file that moved already
-stays where it is, so it may be run again, as for an import or a page that is newer."""
+stays where it is, so it may be run again, as for an import that is newer. With the word pages it also turns the paths in README.md and docs/*.md."""
 import os
 import re
 import subprocess
+import sys
 
 # The files that stay in specs/: definitions, statements, and lemmas that rest on no definition that an edit of the crate changes.
 STAY = {
     "history": "Definition1 Demands Effects Facts Machine NoteParts Notes Statements Tools",
     "reached": "Effects Grows Idle Image Never Parts Register Sound Unused",
+    "printed": "Listing Printed",
     "refuted": "AnyOrder Catalogues ReadLaws Runs Tests Unchanged Wrong",
 }
 
@@ -53,12 +55,17 @@ def sources():
         yield from (f"{at}/{it}" for it in names if it.endswith((".antt", ".rt")))
 
 
+def pages():
+    return ["README.md", *(f"docs/{it}" for it in os.listdir("docs") if it.endswith(".md") and it != "PORT.md")]
+
+
 def main():
     changes = []
     for crate, stay in STAY.items():
         names = "|".join(move(crate, stay.split()))
         changes.append((re.compile(rf"\bRattle\.{crate}\.specs\.({names})\b"), rf"Rattle.{crate}.proofs.\1"))
-    for path in sources():
+        changes.append((re.compile(rf"\b{crate}/specs/({names})\b"), rf"{crate}/proofs/\1"))
+    for path in [*sources(), *(pages() if sys.argv[1:] == ["pages"] else [])]:
         with open(path, encoding="utf-8") as it:
             text = was = it.read()
         for find, put in changes:

@@ -1,3 +1,2 @@
 pub mod Printed
-pub mod AsPromised
 pub mod Listing

@@ -26,7 +26,7 @@ pub data Asks : Frame → Call → Type 0 where
 
 -- What is known after calls on the lent words, the newest first.
 pub data Known (calls : List Call) : Type 0 where
-  -- no make was accepted, and the words are as they were lent, all zero: so every call but make answers 2 (`before-any-make`, text/specs/BeforeMake)
+  -- no make was accepted, and the words are as they were lent, all zero: so every call but make answers 2 (`before_any_make`, text/specs/BeforeMake)
   not_made : NoneMade lent calls → words_after lent calls ≡ lent → Known calls
   -- or the words, with what is told since the last accepted make, are a history, and demands 2 and 3 hold of it (order/specs/LastMake)
   since_made : Made lent calls → Known calls
