@@ -1,5 +1,5 @@
 -- What the table of phases has at a phase, told by the phase's number: each by one test computed over the whole table.
-use Rattle.std.specs.Prelude.{◌≡◌, refl, ◌⊎◌, Bool, true, false, cond, not, ◌||◌, ◌&&◌, List, [], ◌∷◌, ℕ, ◌<◌, ◌≤◌, ltb, leb, eqb}
+use Rattle.std.specs.Prelude.{◌≡◌, refl, ◌⊎◌, Bool, true, false, cond, not, ◌||◌, ◌&&◌, [], ◌∷◌, ℕ, ◌<◌, ◌≤◌, ltb, leb, eqb}
 use Rattle.std.proofs.Common.{ap, sym, ◌∙◌, inl, inr, arith, ne_eqb, le-ltb, eqb-true}
 use Rattle.std.proofs.lemmas.Bool.{false≢true}
 use Rattle.definitions.specs.declared.PhaseRow.{PhaseRow}

@@ -1,5 +1,6 @@
 // Abandon: a busy worker is idle at once. A node that it took at 45 and has not published goes back as line 50 returns it; its item is not used.
 #![tactic(auto)]
+
 pub mod record;
 
 ghost use Rattle.std.specs.Prelude.{◌≡◌, [], ◌∷◌, ◌++◌, ℕ, ◌+◌, ◌*◌, ◌≤◌, length};

@@ -2,7 +2,7 @@
 use Rattle.std.specs.Prelude.{ℕ, ◌<◌, ◌≡◌, refl, Bool, true, false, cond, not, ◌||◌, ◌&&◌, ltb, eqb, get_or, List}
 use Rattle.std.proofs.Common.{ap, sym, ◌∙◌, leb-false, eqb-true, ne_eqb}
 use Rattle.std.proofs.lemmas.Bool.{false≢true}
-use Rattle.definitions.specs.Cells.{cells_of, workers, items}
+use Rattle.definitions.specs.Cells.{cells_of}
 use Rattle.definitions.specs.Calls.{sound_item}
 use Rattle.facts.specs.Facts.{Header, header_sound}
 use Rattle.facts.specs.Refusals.{first_of, first_none, worker_refusals}

@@ -1,6 +1,6 @@
 -- Words set to zero one after the other.
-use Rattle.std.specs.Prelude.{◌≡◌, refl, List, [], ◌∷◌, ◌++◌, ℕ, zero, suc, ◌+◌, ◌-◌, ◌≤◌, ◌<◌, length, set, drop, replicate}
-use Rattle.std.proofs.Common.{ap, sym, ◌∙◌, subst, append_assoc, add-one, arith, length-append, length-drop, drop-cons}
+use Rattle.std.specs.Prelude.{◌≡◌, refl, List, [], ◌∷◌, ◌++◌, ℕ, suc, ◌+◌, ◌-◌, ◌≤◌, ◌<◌, length, set, drop, replicate}
+use Rattle.std.proofs.Common.{ap, sym, ◌∙◌, subst, append_assoc, add-one, arith, drop-cons}
 use Rattle.std.proofs.lemmas.List.{length-replicate, replicate-append-replicate, set_at}
 
 -- One more word is set to zero.

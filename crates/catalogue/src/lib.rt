@@ -2,6 +2,7 @@
 // No call asks anything of its caller: bad calls are refused, each with one fixed number. A call returns the code of its answer and writes
 // the answer's four numbers: the value, the steps, and two zeros.
 #![tactic(auto)]
+
 ghost use Rattle.definitions.specs.Calls.{outcome, Call};
 ghost use Rattle.definitions.specs.Promises.{Told};
 

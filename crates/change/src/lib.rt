@@ -1,5 +1,6 @@
 // Lines 43 to 52 of vCAS, but for line 45, which the crate take has.
 #![tactic(auto)]
+
 ghost use Rattle.std.specs.Prelude.{◌≡◌, ℕ};
 ghost use Rattle.definitions.specs.Cells.{cells_at, written};
 ghost use Rattle.definitions.specs.Lines.{line, no_words, its_value, returned_node, returning, line_43, line_46, line_48, line_50, line_52};

@@ -1,5 +1,6 @@
 // How a call ends: it is refused, or accepted; a step goes on, finishes, or ends with 11 or 12. And the whole of a worker's record.
 #![tactic(auto)]
+
 ghost use Rattle.std.specs.Prelude.{◌≡◌, ◌+◌, ◌*◌, ◌<◌, ◌≤◌, length};
 ghost use Rattle.definitions.specs.Cells.{written, record_of, cleared};
 ghost use Rattle.definitions.specs.Answers.{finished, running, accepted, refusal};

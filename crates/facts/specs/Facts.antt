@@ -1,5 +1,5 @@
 -- What passed damage tests tell: where everything stands, and what a line may take for granted.
-use Rattle.std.specs.Prelude.{ℕ, ◌+◌, ◌*◌, ◌-◌, ◌<◌, ◌≤◌, ◌≡◌, Bool, ◌||◌, ◌&&◌, List, [], ◌∷◌, ltb, leb, get_or, length}
+use Rattle.std.specs.Prelude.{ℕ, ◌+◌, ◌*◌, ◌<◌, ◌≤◌, ◌≡◌, Bool, ◌||◌, ◌&&◌, List, [], ◌∷◌, ltb, leb, get_or, length}
 use Rattle.std.proofs.Math.Path.{refl, ap, ap₂}
 use Rattle.std.proofs.Common.{sym, ◌∙◌}
 use Rattle.std.proofs.Math.Bool.{true, false, cond, not}
@@ -9,7 +9,7 @@ use native.Mathlib.Omega.{arith}
 use borrow.Author.Tests.{lt-ltb, le-ltb, ltb-false, leb-false, eq-eqb, ne_eqb, eqb-true}
 use Rattle.definitions.specs.declared.Answer.{Answer}
 use Rattle.definitions.specs.declared.PhaseRow.{PhaseRow}
-use Rattle.definitions.specs.Cells.{node_words, Cells, cells_of, items_offset, nodes_offset, needed, counter_limit, counter, items, used, given_back, phase, steps, item, old, new, handle, noted, node, new_node, seen}
+use Rattle.definitions.specs.Cells.{node_words, Cells, cells_of, items_offset, nodes_offset, needed, counter_limit, items, used, phase, item, old, new, handle, noted, node, new_node, seen}
 use Rattle.definitions.specs.Phases.{row_of}
 use Rattle.definitions.specs.Damage.{any_of, outside, sizes_outside, header_tests, header_damaged_at, header_damaged, bad_item, bad_value, bad_handle, bad_node, inside_item, sum, total_tests, arguments_damaged, keeps_node, keeps_new_node, kept_tests, kept_damaged, running_damaged, worker_damaged, too_many_steps, beyond_at_6, before_step, step_damaged, item_damaged}
 use Rattle.tables.specs.Ranges.{none_of, some_of, neither}

@@ -1,12 +1,12 @@
 -- The first refusal of a chain, by its number, and how a promise goes through a chain and to a call's result.
-use Rattle.std.specs.Prelude.{ℕ, zero, suc, ◌+◌, ◌*◌, ◌<◌, ◌≡◌, refl, Bool, true, false, cond, not, ◌&&◌, List, [], ◌∷◌, ◌++◌, eqb, get_or}
-use Rattle.std.proofs.Common.{ap, sym, ◌∙◌, subst, eqb-true}
-use Rattle.std.proofs.lemmas.Bool.{false≢true, eqb-false}
+use Rattle.std.specs.Prelude.{ℕ, zero, suc, ◌≡◌, refl, Bool, true, false, cond, not, ◌&&◌, List, [], ◌∷◌, ◌++◌, eqb, get_or}
+use Rattle.std.proofs.Common.{ap, sym, ◌∙◌, subst}
+use Rattle.std.proofs.lemmas.Bool.{false≢true}
 use Rattle.definitions.specs.declared.Answer.{Answer}
 use Rattle.definitions.specs.Cells.{items_offset, nodes_offset, cells_of}
 use Rattle.definitions.specs.Answers.{Outcome, Refusal, ◌⇒◌, unless, refused, refusal}
-use Rattle.definitions.specs.Damage.{header_damaged, item_damaged, bad_item}
-use Rattle.definitions.specs.Calls.{Result, leaving, free_worker, sound_item}
+use Rattle.definitions.specs.Damage.{header_damaged}
+use Rattle.definitions.specs.Calls.{Result, leaving, free_worker}
 use Rattle.definitions.specs.Promises.{Met, Done, Told}
 
 -- The number of the first refusal that holds; 0 where none does.

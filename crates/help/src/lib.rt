@@ -1,5 +1,6 @@
 // Fetching a head (lines 32, 37, 41 and 51), and help: lines 20, 21 and 22, one function each for all six uses.
 #![tactic(auto)]
+
 ghost use Rattle.std.specs.Prelude.{◌≡◌, cond, not, ◌&&◌, [], ◌∷◌, ◌+◌, ◌*◌, ◌<◌, ltb, eqb, length, get_or};
 ghost use Rattle.definitions.specs.Cells.{node_words};
 ghost use Rattle.definitions.specs.Lines.{fetch, help_20, help_21, help_22};

@@ -2,5 +2,6 @@
 // Every contract says that the function does its line of definitions/specs/Lines.antt, answer and every word.
 // Here are the lines of takeSnapshot and the last of vRead; the crates help, change and walk have the others.
 #![tactic(auto)]
+
 pub mod snapshot;
 pub mod vread;

@@ -1,5 +1,6 @@
 // One step of a worker.
 #![tactic(auto)]
+
 pub mod dispatch;
 
 ghost use Rattle.std.specs.Prelude.{◌≡◌, false, ◌&&◌, ◌+◌, ◌*◌, get_or};

@@ -1,5 +1,6 @@
 // Which node line 45 and register take: the one most recently given back; if none waits, the lowest never used. And line 45 of vCAS.
 #![tactic(auto)]
+
 ghost use Rattle.std.specs.Prelude.{◌≡◌, ℕ, ◌+◌, ◌*◌, ◌-◌, ◌<◌, ◌≤◌, length, get_or};
 ghost use Rattle.definitions.specs.Cells.{cells_at, written};
 ghost use Rattle.definitions.specs.Lines.{line, taken_node, no_node, node_to_take, taking, line_45};

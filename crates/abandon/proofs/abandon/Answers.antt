@@ -3,10 +3,7 @@ use Rattle.definitions.specs.Calls.{outcome}
 use Rattle.endings.specs.Laws.{met_if, met_else, refuses}
 use Rattle.facts.specs.Facts.{header_sound}
 use Rattle.facts.specs.Refusals.{done}
-use borrow.Author.Rules.{rules}
 use Rattle.abandon.proofs.abandon.Goals as goal
-
-
 
 pub returns-then-header_is_damaged : goal.returns-then-header_is_damaged
 unfolding outcome

@@ -15,10 +15,7 @@ use Rattle.definitions.specs.Promises.{Met}
 use Rattle.endings.specs.Laws.{met_if, met_else, refuses}
 use Rattle.facts.specs.Facts.{unknown_phase, idle_sound}
 use Rattle.abandon.specs.Abandoned.{damage_told, can_give_back, met_holding, met_without}
-use borrow.Author.Rules.{rules}
 use Rattle.abandon.proofs.abandon_sound.Goals as goal
-
-
 
 -- What is left of an abandon once the record was tested.
 
@@ -68,4 +65,3 @@ returns c = let x = c.args in let ws = x.words.now in let m = cells_of ws in let
     (ne_eqb _ _ c.if-phase-eq0.false)
     (met_without (holds_node m w) (returned_node m w) (returning m w) (cleared w) (sym c.holds_node.ensures ∙ c.if-holds_node.false)
     (record { answers = c.clear.ensures.0; leaves = c.clear.ensures.1 }))
-

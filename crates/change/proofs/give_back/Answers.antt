@@ -4,10 +4,7 @@ use Prim.Native.Nat.{ℕ, ◌+◌, ◌*◌}
 use lib.ListN.{get_or, set}
 use Rattle.definitions.specs.Cells.{node_words}
 use Rattle.tables.specs.Part.{write_part, ◌gets◌}
-use borrow.Author.Rules.{rules}
 use Rattle.change.proofs.give_back.Goals as goal
-
-
 
 pub returns : goal.returns
 returns c = λ a. let x = c.args in let ws = x.words.now in let n = get_or ws (16 + 16 * x.w + 9) 0 in

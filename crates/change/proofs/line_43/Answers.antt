@@ -1,16 +1,9 @@
-use mathlib.Core.Path.{◌≡◌, ◌∙◌, ap, sym}
-use mathlib.Core.List.{[], ◌∷◌, ◌++◌, append_assoc}
-use Prim.Native.Nat.{ℕ, ◌+◌, ◌*◌, ◌-◌, ◌<◌, ◌≤◌}
-use lib.ListN.{length, get_or}
-use lib.ListN.{length-set}
-use native.Mathlib.Omega.{arith}
-use borrow.Author.Tests.{eq-eqb, ne_eqb, lt-ltb, le-ltb, le-leb, lt-leb}
-use Rattle.endings.specs.Laws.{met_if, met_else, refuses, node_word}
+use Prim.Native.Nat.{◌+◌, ◌*◌}
+use lib.ListN.{get_or}
+use borrow.Author.Tests.{eq-eqb, ne_eqb, lt-leb}
+use Rattle.endings.specs.Laws.{met_if, met_else, node_word}
 use Rattle.definitions.specs.Lines.{line_43}
-use borrow.Author.Rules.{rules}
 use Rattle.change.proofs.line_43.Goals as goal
-
-
 
 pub returns-then-value-words : goal.returns-then-value-words
 unfolding line_43

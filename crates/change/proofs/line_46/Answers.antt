@@ -1,16 +1,7 @@
-use mathlib.Core.Path.{◌≡◌, ◌∙◌, ap, sym}
-use mathlib.Core.List.{[], ◌∷◌, ◌++◌, append_assoc}
-use Prim.Native.Nat.{ℕ, ◌+◌, ◌*◌, ◌-◌, ◌<◌, ◌≤◌}
-use lib.ListN.{length, get_or}
-use borrow.Author.Tests.{eq-eqb, ne_eqb, lt-ltb, le-ltb, le-leb, lt-leb}
-use Rattle.endings.specs.Laws.{met_if, met_else, refuses, node_word}
+use borrow.Author.Tests.{eq-eqb, ne_eqb}
+use Rattle.endings.specs.Laws.{met_if, met_else}
 use Rattle.definitions.specs.Lines.{line_46}
-use native.Mathlib.Omega.{arith}
-use lib.ListN.{length-set}
-use borrow.Author.Rules.{rules}
 use Rattle.change.proofs.line_46.Goals as goal
-
-
 
 pub returns-then-words-head_at : goal.returns-then-words-head_at
 unfolding line_46

@@ -5,10 +5,7 @@ use lib.ListN.{get_or}
 use Rattle.definitions.specs.Lines.{line_50}
 use Rattle.endings.specs.Stepped.{moved_on}
 use Rattle.endings.specs.Laws.{met_if, met_else, refuses}
-use borrow.Author.Rules.{rules}
 use Rattle.change.proofs.line_50.Goals as goal
-
-
 
 pub returns-then-returned_is_damaged : goal.returns-then-returned_is_damaged
 unfolding line_50

@@ -1,15 +1,8 @@
-use mathlib.Core.Path.{◌≡◌, ◌∙◌, ap, sym}
-use mathlib.Core.List.{[], ◌∷◌, ◌++◌, append_assoc}
-use Prim.Native.Nat.{ℕ, ◌+◌, ◌*◌, ◌-◌, ◌<◌, ◌≤◌}
-use lib.ListN.{length, get_or}
-use lib.ListN.{length-set}
-use native.Mathlib.Omega.{arith}
-use borrow.Author.Tests.{eq-eqb, ne_eqb, lt-ltb, le-ltb, le-leb, lt-leb}
-use Rattle.endings.specs.Laws.{met_if, met_else, refuses, node_word}
-use borrow.Author.Rules.{rules}
+use Prim.Native.Nat.{◌+◌, ◌*◌}
+use lib.ListN.{get_or}
+use borrow.Author.Tests.{le-ltb}
+use Rattle.endings.specs.Laws.{node_word}
 use Rattle.change.proofs.returned_is_damaged.Goals as goal
-
-
 
 pub returns : goal.returns
 returns c = λ a. let x = c.args in let ws = x.words.now in

@@ -1,13 +1,10 @@
-use mathlib.Core.Path.{◌≡◌, ◌∙◌, ap, sym}
+use mathlib.Core.Path.{◌∙◌, sym}
 use Prim.Native.Nat.{◌+◌, ◌*◌}
-use lib.ListN.{length, get_or}
+use lib.ListN.{get_or}
 use borrow.Author.Tests.{eq-eqb, ne_eqb}
 use Rattle.definitions.specs.Lines.{line_20}
-use Rattle.endings.specs.Laws.{met_if, met_else, refuses, node_word}
-use borrow.Author.Rules.{rules}
+use Rattle.endings.specs.Laws.{met_else, node_word}
 use Rattle.help.proofs.line_20.Goals as goal
-
-
 
 pub returns-then-stamp : goal.returns-then-stamp
 unfolding line_20

@@ -1,12 +1,5 @@
-use mathlib.Core.Path.{◌∙◌, ap}
-use lib.ListN.{length}
 use Rattle.definitions.specs.Lines.{line_21}
-use native.Mathlib.Omega.{arith}
-use lib.ListN.{length-set}
-use borrow.Author.Rules.{rules}
 use Rattle.help.proofs.line_21.Goals as goal
-
-
 
 pub returns : goal.returns
 unfolding line_21

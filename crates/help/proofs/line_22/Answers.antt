@@ -9,12 +9,9 @@ use Rattle.definitions.specs.Answers.{running, goes_on}
 use Rattle.definitions.specs.Promises.{Met}
 use Rattle.definitions.specs.Lines.{line_22}
 use Rattle.endings.specs.Stepped.{moved_on}
-use Rattle.endings.specs.Laws.{met_if, met_else, refuses, node_word}
+use Rattle.endings.specs.Laws.{met_else, node_word}
 use Rattle.help.specs.Stamps.{stamp_undecided, stamp_written}
-use borrow.Author.Rules.{rules}
 use Rattle.help.proofs.line_22.Goals as goal
-
-
 
 -- The line goes on at the same phase, whether it stored or not.
 

@@ -1,19 +1,8 @@
-use mathlib.Core.Path.{◌≡◌, refl, ◌∙◌, ap, sym}
-use mathlib.Core.Bool.{true, false}
-use mathlib.Core.List.{[], ◌∷◌, ◌++◌}
-use Prim.Native.Nat.{ℕ, ◌+◌, ◌*◌, ◌-◌, ◌<◌, ◌≤◌}
-use lib.ListN.{length, get_or}
 use native.Mathlib.Omega.{arith}
-use borrow.Author.Tests.{eq-eqb, ne_eqb, lt-ltb, le-ltb, le-leb, lt-leb}
-use Rattle.definitions.specs.Cells.{cells_at, cells_of, items_offset, nodes_offset}
-use Rattle.endings.specs.Laws.{met_if, met_else, refuses}
-use Rattle.facts.specs.Refusals.{done}
-use Rattle.facts.specs.Facts.{header_sound, item_there, can_take_at}
-use Rattle.steps.specs.Dispatch.{fit, row_operation, row_snapshot, line_tied}
-use borrow.Author.Rules.{rules}
+use borrow.Author.Tests.{ne_eqb}
+use Rattle.definitions.specs.Cells.{cells_at}
+use Rattle.facts.specs.Facts.{item_there}
 use Rattle.steps.proofs.its_item_is_damaged.Goals as goal
-
-
 
 pub item_is_damaged-requires : goal.item_is_damaged-requires
 item_is_damaged-requires c = let x = c.args in let h = c.requires in

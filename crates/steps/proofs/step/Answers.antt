@@ -1,20 +1,9 @@
-use mathlib.Core.Path.{◌≡◌, refl, ◌∙◌, ap, sym}
-use mathlib.Core.Bool.{true, false}
-use mathlib.Core.List.{[], ◌∷◌, ◌++◌}
-use Prim.Native.Nat.{ℕ, ◌+◌, ◌*◌, ◌-◌, ◌<◌, ◌≤◌}
-use lib.ListN.{length, get_or}
-use native.Mathlib.Omega.{arith}
-use borrow.Author.Tests.{eq-eqb, ne_eqb, lt-ltb, le-ltb, le-leb, lt-leb}
-use Rattle.definitions.specs.Cells.{cells_at, cells_of, items_offset, nodes_offset}
+use mathlib.Core.Path.{◌∙◌, sym}
 use Rattle.endings.specs.Laws.{met_if, met_else, refuses}
 use Rattle.facts.specs.Refusals.{done}
-use Rattle.facts.specs.Facts.{header_sound, item_there, can_take_at}
-use Rattle.steps.specs.Dispatch.{fit, row_operation, row_snapshot, line_tied}
+use Rattle.facts.specs.Facts.{header_sound}
 use Rattle.definitions.specs.Calls.{outcome}
-use borrow.Author.Rules.{rules}
 use Rattle.steps.proofs.step.Goals as goal
-
-
 
 pub returns-then-header_is_damaged : goal.returns-then-header_is_damaged
 unfolding outcome

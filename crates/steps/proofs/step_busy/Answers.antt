@@ -1,15 +1,9 @@
-use mathlib.Core.Path.{◌≡◌, refl, ◌∙◌, ap, sym}
-use mathlib.Core.Bool.{true, false}
+use mathlib.Core.Path.{◌∙◌, sym}
 use Prim.Native.Nat.{◌+◌, ◌*◌}
 use lib.ListN.{get_or}
-use borrow.Author.Tests.{eq-eqb, ne_eqb, le-leb, lt-leb}
-use Rattle.definitions.specs.Cells.{cells_of, items_offset, nodes_offset}
-use Rattle.endings.specs.Laws.{met_if, met_else, refuses}
+use Rattle.endings.specs.Laws.{met_else}
 use Rattle.steps.specs.Dispatch.{fit, row_operation, row_snapshot, row_other, line_tied}
-use borrow.Author.Rules.{rules}
 use Rattle.steps.proofs.step_busy.Goals as goal
-
-
 
 pub run_row-requires : goal.run_row-requires
 run_row-requires c = let x = c.args in let h = c.requires in

@@ -9,10 +9,7 @@ use Rattle.endings.specs.Stepped.{stepped}
 use Rattle.endings.specs.Laws.{met_if, met_else, refuses}
 use Rattle.definitions.specs.Calls.{stepping}
 use Rattle.facts.specs.Facts.{unknown_phase, idle_sound, idle_steps, late, either_refused, early_told, early_damaged, late_damaged, made_busy, in_order}
-use borrow.Author.Rules.{rules}
 use Rattle.steps.proofs.step_sound.Goals as goal
-
-
 
 pub returns-then-words-worker : goal.returns-then-words-worker
 unfolding stepping

@@ -1,23 +1,19 @@
-use lib.ListN.{take, drop, length-take, length-drop}
+use lib.ListN.{length-take, length-drop}
 use mathlib.Core.Path.{◌≡◌, ◌∙◌, ap, sym}
-use mathlib.Core.List.{[], ◌∷◌, ◌++◌, append_assoc}
-use Prim.Native.Nat.{ℕ, ◌+◌, ◌*◌, ◌-◌, ◌<◌, ◌≤◌}
+use mathlib.Core.List.{[], ◌∷◌, append_assoc}
+use Prim.Native.Nat.{ℕ, ◌+◌, ◌*◌, ◌<◌}
 use lib.ListN.{length, get_or}
-use borrow.Author.Tests.{eq-eqb, ne_eqb, lt-ltb, le-ltb, le-leb, lt-leb}
-use Rattle.endings.specs.Laws.{met_if, met_else, refuses, node_word}
+use Rattle.endings.specs.Laws.{met_if, met_else, refuses}
 use mathlib.Core.Bool.{true, false}
 use Rattle.endings.specs.Stepped.{CanTake}
-use Rattle.tables.specs.Part.{write_part, length_back, ◌gets◌}
-use Rattle.definitions.specs.Cells.{node_words, Assignment, ◌≔◌, cells_at, written, phase, steps, new, node, new_node, value, older, stamp}
-use Rattle.definitions.specs.Lines.{line_45, no_node, node_to_take, taking}
+use Rattle.tables.specs.Part.{write_part, ◌gets◌}
+use Rattle.definitions.specs.Cells.{node_words, ◌≔◌, cells_at, phase, steps, new, node, new_node, value, older, stamp}
+use Rattle.definitions.specs.Lines.{line_45, no_node, taking}
 use Rattle.endings.specs.Laws.{taken_then, taken_told, taken_none, can_take, taken_fits, length_written}
 use Rattle.tables.specs.Ranges.{outside_is}
 use native.Mathlib.Omega.{arith}
-use lib.ListN.{length-set}
 use borrow.Author.Rules.{rules}
 use Rattle.take.proofs.line_45.Goals as goal
-
-
 
 -- a node is left, and can be taken
 
@@ -37,13 +33,13 @@ node_is_damaged-requires c =
     let e = c.next_node-taken.ensures x.items_at x.nodes_at in
     let h = taken_fits x.items_at x.nodes_at x.words.now (ready) in
     omega (arith, e, h) in
-     let h = fits in search rules
+    let h = fits in search rules
 
 pub returns-then-node_is_damaged : goal.returns-then-node_is_damaged
 unfolding line_45
 returns-then-node_is_damaged c =
     let left : let x = c.args in no_node (cells_at x.items_at x.nodes_at x.words.now) ≡ false = let x = c.args in sym (c.none_left.ensures x.items_at x.nodes_at) ∙ c.if-none_left.false in
-     let x = c.args in let ws = x.words.now in let m = cells_at x.items_at x.nodes_at ws in
+    let x = c.args in let ws = x.words.now in let m = cells_at x.items_at x.nodes_at ws in
     let e = c.next_node-taken.ensures x.items_at x.nodes_at in
     let d = sym (outside_is x.items_at x.nodes_at ws c.next_node-taken.result) ∙ sym c.node_is_damaged.ensures ∙ c.if-node_is_damaged.true in
     met_if _ (taken_told m x.w (left) (rw e at d)) (refuses 2 c.refuse.ensures)
@@ -52,7 +48,7 @@ pub take_node-requires : goal.take_node-requires
 take_node-requires c =
     let left : let x = c.args in no_node (cells_at x.items_at x.nodes_at x.words.now) ≡ false = let x = c.args in sym (c.none_left.ensures x.items_at x.nodes_at) ∙ c.if-none_left.false in
     let ready : let x = c.args in CanTake x.nodes_at x.words.now = can_take c.requires.0 (left) in
-     ready
+    ready
 
 pub make-requires : goal.make-requires
 make-requires c =
@@ -64,13 +60,13 @@ make-requires c =
     omega (arith, e, h) in
     let as_many : length c.take_node.new.words ≡ length c.args.words.now = let x = c.args in
     ap length (c.take_node.ensures x.items_at) ∙ length_written x.items_at x.nodes_at x.words.now (taking (cells_at x.items_at x.nodes_at x.words.now)) in
-     let h = fits in let l = as_many in let r = c.requires.0 in simp (length-take, length-drop) (omega (arith, h, l, r))
+    let h = fits in let l = as_many in let r = c.requires.0 in simp (length-take, length-drop) (omega (arith, h, l, r))
 
 pub returns : goal.returns
 unfolding line_45
 returns c =
     let left : let x = c.args in no_node (cells_at x.items_at x.nodes_at x.words.now) ≡ false = let x = c.args in sym (c.none_left.ensures x.items_at x.nodes_at) ∙ c.if-none_left.false in
-     let x = c.args in let ws = x.words.now in let a = x.items_at in let b = x.nodes_at in let m = cells_at a b ws in let t = c.next_node-taken.result in
+    let x = c.args in let ws = x.words.now in let a = x.items_at in let b = x.nodes_at in let m = cells_at a b ws in let t = c.next_node-taken.result in
     let e = c.next_node-taken.ensures a b in
     let d = sym (outside_is a b ws t) ∙ sym c.node_is_damaged.ensures ∙ c.if-node_is_damaged.false in
     let f = write_part c.take_node.new.words b ((node_words * t + 0) gets m (new x.w) ∷ (node_words * t + 1) gets (m (node x.w) + 1) ∷ (node_words * t + 2) gets 4294967295 ∷ []) c.make.ensures in

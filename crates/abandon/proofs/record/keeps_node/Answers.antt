@@ -4,10 +4,7 @@ use lib.Dec.{eqb}
 use Rattle.definitions.specs.Phases.{table}
 use Rattle.definitions.specs.Damage.{keeps_node}
 use Rattle.abandon.specs.ByPhase.{told_by}
-use borrow.Author.Rules.{rules}
 use Rattle.abandon.proofs.record.keeps_node.Goals as goal
-
-
 
 pub returns : goal.returns
 unfolding table

@@ -4,10 +4,7 @@ use Rattle.definitions.specs.Cells.{cells_at, new_node}
 use Rattle.definitions.specs.Phases.{row_of}
 use Rattle.definitions.specs.Damage.{keeps_new_node, bad_node, running_damaged, kept_damaged}
 use Rattle.abandon.specs.ByPhase.{or_true, or_right}
-use borrow.Author.Rules.{rules}
 use Rattle.abandon.proofs.record.record_is_damaged.Goals as goal
-
-
 
 pub returns-then-arguments_are_damaged : goal.returns-then-arguments_are_damaged
 unfolding running_damaged kept_damaged

@@ -3,10 +3,7 @@ use Prim.Native.Nat.{ℕ, ◌/◌, ◌%◌, ◌^◌}
 use lib.Dec.{eqb}
 use Rattle.definitions.specs.Phases.{table}
 use Rattle.abandon.specs.ByPhase.{before_22, told_by}
-use borrow.Author.Rules.{rules}
 use Rattle.abandon.proofs.record.stands_before_22.Goals as goal
-
-
 
 pub returns : goal.returns
 unfolding table

@@ -1,10 +1,8 @@
 use Rattle.tables.specs.Ranges.{neither}
-use mathlib.Core.Path.{◌≡◌, refl, ◌∙◌, ap, sym}
-use mathlib.Core.Bool.{true, false, ◌||◌}
-use mathlib.Core.List.{List, [], ◌∷◌, ◌++◌}
-use Prim.Native.Nat.{ℕ, ◌+◌, ◌*◌, ◌-◌, ◌<◌, ◌≤◌}
+use mathlib.Core.Path.{refl, ◌∙◌, sym}
+use mathlib.Core.List.{[], ◌∷◌}
 use lib.Dec.{ltb}
-use lib.ListN.{length, set, drop, replicate}
+use lib.ListN.{length, drop}
 use borrow.Author.Tests.{lt-ltb, le-ltb}
 use Rattle.definitions.specs.Cells.{needed}
 use Rattle.definitions.specs.Damage.{any_of, sizes_outside}
@@ -13,11 +11,7 @@ use Rattle.tables.specs.Ranges.{some_of}
 use Rattle.facts.specs.Refusals.{done_if, done_else}
 use Rattle.calls.specs.Zeros.{sizes_written}
 use native.Mathlib.Omega.{arith}
-use lib.ListN.{length-set}
-use borrow.Author.Rules.{rules}
 use Rattle.calls.proofs.make.make.Goals as goal
-
-
 
 pub returns-then-sizes_beyond : goal.returns-then-sizes_beyond
 unfolding outcome making

@@ -6,10 +6,7 @@ use Rattle.definitions.specs.Lines.{no_node}
 use Rattle.definitions.specs.Calls.{registering}
 use Rattle.endings.specs.Laws.{met_if, met_else, refuses}
 use Rattle.facts.specs.Facts.{can_take_at}
-use borrow.Author.Rules.{rules}
 use Rattle.calls.proofs.register.register_sound.Goals as goal
-
-
 
 pub returns-then-words-value : goal.returns-then-words-value
 unfolding registering
@@ -28,19 +25,19 @@ pub returns-then-first_is_damaged : goal.returns-then-first_is_damaged
 unfolding registering
 returns-then-first_is_damaged c =
     let left : no_node (cells_of c.args.words.now) ≡ false = let ws = c.args.words.now in sym (c.none_left.ensures (items_offset ws) (nodes_offset ws)) ∙ c.if-none_left.false in
-     let ws = c.args.words.now in
+    let ws = c.args.words.now in
     met_else _ (lt-leb _ _ c.if-words-value.false) (met_else _ (lt-leb _ _ c.if-words.false) (met_else _ (left) (met_if _ (sym (c.first_is_damaged.ensures (items_offset ws)) ∙ c.if-first_is_damaged.true) (refuses 2 c.refuse-then-first_is_damaged.ensures))))
 
 pub register_taking-requires : goal.register_taking-requires
 register_taking-requires c =
     let left : no_node (cells_of c.args.words.now) ≡ false = let ws = c.args.words.now in sym (c.none_left.ensures (items_offset ws) (nodes_offset ws)) ∙ c.if-none_left.false in
-     let ws = c.args.words.now in let h = c.requires in (h, c.if-words.false, can_take_at ws h (left))
+    let ws = c.args.words.now in let h = c.requires in (h, c.if-words.false, can_take_at ws h (left))
 
 pub returns : goal.returns
 unfolding registering
 returns c =
     let left : no_node (cells_of c.args.words.now) ≡ false = let ws = c.args.words.now in sym (c.none_left.ensures (items_offset ws) (nodes_offset ws)) ∙ c.if-none_left.false in
-     let ws = c.args.words.now in
+    let ws = c.args.words.now in
     met_else _ (lt-leb _ _ c.if-words-value.false) (met_else _ (lt-leb _ _ c.if-words.false) (met_else _ (left) (met_else _ (sym (c.first_is_damaged.ensures (items_offset ws)) ∙ c.if-first_is_damaged.false) c.register_taking.ensures)))
 
 -- ?? same_length

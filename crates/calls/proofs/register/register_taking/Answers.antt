@@ -1,16 +1,13 @@
-use mathlib.Core.Path.{◌≡◌, refl, ◌∙◌, ap, sym}
-use mathlib.Core.List.{[], ◌∷◌, ◌++◌}
-use Prim.Native.Nat.{ℕ, ◌+◌, ◌*◌, ◌-◌, ◌<◌, ◌≤◌}
-use lib.ListN.{length, get_or, length-set, length-take, length-drop}
+use mathlib.Core.Path.{◌≡◌, refl, ◌∙◌, ap}
+use mathlib.Core.List.{[], ◌∷◌}
+use Prim.Native.Nat.{ℕ, ◌+◌, ◌*◌, ◌<◌}
+use lib.ListN.{length, get_or, length-take, length-drop}
 use native.Mathlib.Omega.{arith}
-use Rattle.tables.specs.Part.{write_part, length_back, back, ◌gets◌}
-use Rattle.definitions.specs.Cells.{node_words, Assignment, ◌≔◌, cells_of, items_offset, nodes_offset, counter, items, value, older, stamp, head, birth, size}
+use Rattle.tables.specs.Part.{write_part, ◌gets◌}
+use Rattle.definitions.specs.Cells.{node_words, ◌≔◌, cells_of, items_offset, nodes_offset, counter, items, value, older, stamp, head, birth, size}
 use Rattle.definitions.specs.Lines.{taking}
 use Rattle.endings.specs.Laws.{taken_then, taken_fits, length_written}
-use borrow.Author.Rules.{rules}
 use Rattle.calls.proofs.register.register_taking.Goals as goal
-
-
 
 -- the node taken is one of the N
 
@@ -24,7 +21,7 @@ make-requires c =
     omega (arith, e, h) in
     let as_many : length c.take_node.new.words ≡ length c.args.words.now = let ws = c.args.words.now in
     ap length (c.take_node.ensures (items_offset ws)) ∙ length_written (items_offset ws) (nodes_offset ws) ws (taking (cells_of ws)) in
-     let h = fits in let l = as_many in let r = c.requires.0 in simp (length-take, length-drop) (omega (arith, h, l, r))
+    let h = fits in let l = as_many in let r = c.requires.0 in simp (length-take, length-drop) (omega (arith, h, l, r))
 
 pub returns : goal.returns
 returns c = let x = c.args in let ws = x.words.now in let a = items_offset ws in let b = nodes_offset ws in let m = cells_of ws in let t = c.next_node-taken.result in

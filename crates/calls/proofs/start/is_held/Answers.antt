@@ -1,27 +1,18 @@
-use mathlib.Core.Path.{◌≡◌, refl, ◌∙◌, sym}
+use mathlib.Core.Path.{◌≡◌, ◌∙◌, sym}
 use mathlib.Core.Bool.{false}
-use Prim.Native.Nat.{◌+◌, ◌*◌, ◌<◌}
-use lib.ListN.{length, get_or}
 use native.Mathlib.Omega.{arith}
-use borrow.Author.Tests.{le-leb, lt-leb}
-use Rattle.definitions.specs.Cells.{cells_of}
-use Rattle.definitions.specs.Phases.{row_of}
-use Rattle.definitions.specs.Damage.{header_damaged, running_damaged}
+use Rattle.definitions.specs.Damage.{header_damaged}
 use Rattle.facts.specs.Facts.{Header, header_sound}
-use Rattle.calls.specs.Starts.{busy_held, idle_free}
-use borrow.Author.Rules.{rules}
 use Rattle.calls.proofs.start.is_held.Goals as goal
-
-
 
 pub bounds-words-0 : goal.bounds-words-0
 bounds-words-0 c =
     let sound : header_damaged c.args.words.now ≡ false = sym c.header_is_damaged.ensures ∙ c.if-header_is_damaged.false in
     let header : Header c.args.words.now = header_sound _ (sound) in
-     omega (arith, header)
+    omega (arith, header)
 
 pub bounds-words-w : goal.bounds-words-w
 bounds-words-w c =
     let sound : header_damaged c.args.words.now ≡ false = sym c.header_is_damaged.ensures ∙ c.if-header_is_damaged.false in
     let header : Header c.args.words.now = header_sound _ (sound) in
-     omega (arith, header, c.if-words-worker.false)
+    omega (arith, header, c.if-words-worker.false)

@@ -1,19 +1,9 @@
-use mathlib.Core.Path.{◌≡◌, refl, ◌∙◌, ap, sym}
-use mathlib.Core.Bool.{true, false}
-use mathlib.Core.List.{[], ◌∷◌, ◌++◌}
-use Prim.Native.Nat.{ℕ, ◌+◌, ◌*◌, ◌-◌, ◌<◌, ◌≤◌}
-use lib.ListN.{length, get_or}
+use mathlib.Core.Path.{refl, ◌∙◌, sym}
 use native.Mathlib.Omega.{arith}
-use borrow.Author.Tests.{eq-eqb, ne_eqb, lt-ltb, le-ltb, le-leb, lt-leb}
-use Rattle.definitions.specs.Cells.{cells_at, cells_of, items_offset, nodes_offset, record_of}
-use Rattle.endings.specs.Laws.{met_if, met_else, refuses}
-use Rattle.facts.specs.Refusals.{done, met_first, met_past, worker_refusals}
-use Rattle.facts.specs.Facts.{Header, header_sound}
-use Rattle.calls.specs.Starts.{here, later, header_there, worker_there, registered_item}
-use borrow.Author.Rules.{rules}
+use borrow.Author.Tests.{lt-leb}
+use Rattle.definitions.specs.Cells.{nodes_offset}
+use Rattle.calls.specs.Starts.{here, later}
 use Rattle.calls.proofs.start.item_refusal.Goals as goal
-
-
 
 pub returns-then-item_is_damaged : goal.returns-then-item_is_damaged
 returns-then-item_is_damaged c = let ws = c.args.words.now in

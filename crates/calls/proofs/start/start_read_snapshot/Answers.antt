@@ -1,23 +1,17 @@
-use mathlib.Core.Path.{◌≡◌, refl, ◌∙◌, ap, sym}
-use mathlib.Core.Bool.{true, false, cond, ◌||◌}
+use mathlib.Core.Path.{refl}
 use mathlib.Core.List.{List, [], ◌∷◌, ◌++◌}
-use Prim.Native.Nat.{ℕ, ◌+◌, ◌*◌, ◌-◌, ◌<◌, ◌≤◌}
-use lib.Dec.{ltb, eqb}
-use lib.ListN.{length, get_or}
+use Prim.Native.Nat.{ℕ}
+use lib.Dec.{ltb}
 use native.Mathlib.Omega.{arith}
-use borrow.Author.Tests.{eq-eqb, ne_eqb, lt-ltb, le-ltb, le-leb, lt-leb}
+use borrow.Author.Tests.{lt-ltb, le-ltb, le-leb, lt-leb}
 use Rattle.definitions.specs.Answers.{Outcome, Refusal, ◌⇒◌, accepts}
-use Rattle.definitions.specs.Cells.{Cells, cells_at, cells_of, items_offset, nodes_offset, record_of, birth, items}
-use Rattle.definitions.specs.Damage.{bad_value, bad_handle}
+use Rattle.definitions.specs.Cells.{Cells, cells_of, record_of, birth}
+use Rattle.definitions.specs.Damage.{bad_handle}
 use Rattle.endings.specs.Laws.{met_if, met_else, refuses}
 use Rattle.facts.specs.Refusals.{done, met_first, met_past, worker_refusals}
-use Rattle.facts.specs.Facts.{Header, header_sound}
-use Rattle.calls.specs.Starts.{free, held, here, later, header_there, worker_there, registered_item}
+use Rattle.calls.specs.Starts.{free, held, header_there, worker_there, registered_item}
 use Rattle.definitions.specs.Calls.{outcome, starting_read_snapshot, sound_item}
-use borrow.Author.Rules.{rules}
 use Rattle.calls.proofs.start.start_read_snapshot.Goals as goal
-
-
 
 handles : Cells → ℕ → ℕ → List Refusal
 handles m i h = bad_handle m h ⇒ 8 ∷ ltb h (m (birth i)) ⇒ 9 ∷ []

@@ -1,21 +1,12 @@
-use mathlib.Core.Path.{◌≡◌, refl, ◌∙◌, ap, sym}
-use mathlib.Core.Bool.{true, false}
-use mathlib.Core.List.{[], ◌∷◌, ◌++◌}
-use Prim.Native.Nat.{ℕ, ◌+◌, ◌*◌, ◌-◌, ◌<◌, ◌≤◌}
-use lib.ListN.{length, get_or}
+use mathlib.Core.Path.{refl}
+use mathlib.Core.List.{[]}
 use native.Mathlib.Omega.{arith}
-use borrow.Author.Tests.{eq-eqb, ne_eqb, lt-ltb, le-ltb, le-leb, lt-leb}
-use Rattle.definitions.specs.Cells.{cells_at, cells_of, items_offset, nodes_offset, record_of}
-use Rattle.endings.specs.Laws.{met_if, met_else, refuses}
+use Rattle.definitions.specs.Cells.{record_of}
 use Rattle.facts.specs.Refusals.{done, met_first, met_past, worker_refusals}
-use Rattle.facts.specs.Facts.{Header, header_sound}
-use Rattle.calls.specs.Starts.{free, held, here, later, header_there, worker_there, registered_item}
+use Rattle.calls.specs.Starts.{free, held, header_there, worker_there}
 use Rattle.definitions.specs.Answers.{accepts}
 use Rattle.definitions.specs.Calls.{outcome, starting_take_snapshot}
-use borrow.Author.Rules.{rules}
 use Rattle.calls.proofs.start.start_take_snapshot.Goals as goal
-
-
 
 pub returns-then-is_held : goal.returns-then-is_held
 unfolding outcome starting_take_snapshot

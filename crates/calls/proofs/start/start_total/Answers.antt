@@ -1,23 +1,18 @@
-use mathlib.Core.Path.{◌≡◌, refl, ◌∙◌, ap, sym}
-use mathlib.Core.Bool.{true, false, cond, ◌||◌}
-use mathlib.Core.List.{List, [], ◌∷◌, ◌++◌}
-use Prim.Native.Nat.{ℕ, ◌+◌, ◌*◌, ◌-◌, ◌<◌, ◌≤◌}
-use lib.Dec.{ltb, eqb}
-use lib.ListN.{length, get_or}
+use mathlib.Core.Path.{refl}
+use mathlib.Core.Bool.{cond}
+use mathlib.Core.List.{List, [], ◌∷◌}
+use Prim.Native.Nat.{ℕ}
+use lib.Dec.{eqb}
 use native.Mathlib.Omega.{arith}
-use borrow.Author.Tests.{eq-eqb, ne_eqb, lt-ltb, le-ltb, le-leb, lt-leb}
+use borrow.Author.Tests.{eq-eqb, ne_eqb, le-leb, lt-leb}
 use Rattle.definitions.specs.Answers.{Outcome, Refusal, ◌⇒◌, accepts}
-use Rattle.definitions.specs.Cells.{Cells, cells_at, cells_of, items_offset, nodes_offset, record_of, birth, items}
+use Rattle.definitions.specs.Cells.{Cells, cells_of, record_of, items}
 use Rattle.definitions.specs.Damage.{bad_value, bad_handle}
 use Rattle.endings.specs.Laws.{met_if, met_else, refuses}
 use Rattle.facts.specs.Refusals.{done, met_first, met_past, worker_refusals}
-use Rattle.facts.specs.Facts.{Header, header_sound}
-use Rattle.calls.specs.Starts.{free, held, here, later, header_there, worker_there, registered_item}
+use Rattle.calls.specs.Starts.{free, held, header_there, worker_there}
 use Rattle.definitions.specs.Calls.{outcome, starting_total}
-use borrow.Author.Rules.{rules}
 use Rattle.calls.proofs.start.start_total.Goals as goal
-
-
 
 asked : Cells → ℕ → ℕ → List Refusal
 asked m q h = bad_value m q ⇒ 7 ∷ bad_handle m h ⇒ 8 ∷ []

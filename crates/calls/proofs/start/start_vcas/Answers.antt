@@ -1,23 +1,16 @@
-use mathlib.Core.Path.{◌≡◌, refl, ◌∙◌, ap, sym}
-use mathlib.Core.Bool.{true, false, cond, ◌||◌}
+use mathlib.Core.Path.{refl}
+use mathlib.Core.Bool.{◌||◌}
 use mathlib.Core.List.{List, [], ◌∷◌, ◌++◌}
-use Prim.Native.Nat.{ℕ, ◌+◌, ◌*◌, ◌-◌, ◌<◌, ◌≤◌}
-use lib.Dec.{ltb, eqb}
-use lib.ListN.{length, get_or}
+use Prim.Native.Nat.{ℕ}
 use native.Mathlib.Omega.{arith}
-use borrow.Author.Tests.{eq-eqb, ne_eqb, lt-ltb, le-ltb, le-leb, lt-leb}
 use Rattle.definitions.specs.Answers.{Outcome, Refusal, ◌⇒◌, accepts}
-use Rattle.definitions.specs.Cells.{Cells, cells_at, cells_of, items_offset, nodes_offset, record_of, birth, items}
-use Rattle.definitions.specs.Damage.{bad_value, bad_handle}
+use Rattle.definitions.specs.Cells.{Cells, cells_of, record_of}
+use Rattle.definitions.specs.Damage.{bad_value}
 use Rattle.endings.specs.Laws.{met_if, met_else, refuses}
 use Rattle.facts.specs.Refusals.{done, met_first, met_past, worker_refusals}
-use Rattle.facts.specs.Facts.{Header, header_sound}
-use Rattle.calls.specs.Starts.{free, held, here, later, header_there, worker_there, registered_item}
+use Rattle.calls.specs.Starts.{free, held, header_there, worker_there}
 use Rattle.definitions.specs.Calls.{outcome, starting_v_cas, sound_item}
-use borrow.Author.Rules.{rules}
 use Rattle.calls.proofs.start.start_vcas.Goals as goal
-
-
 
 values : Cells → ℕ → ℕ → List Refusal
 values m o n = (bad_value m o || bad_value m n) ⇒ 7 ∷ []

@@ -1,16 +1,7 @@
-use mathlib.Core.Path.{◌≡◌, ◌∙◌, ap, sym}
-use mathlib.Core.List.{[], ◌∷◌}
-use Prim.Native.Nat.{◌+◌, ◌*◌, ◌<◌, ◌≤◌}
-use lib.ListN.{length, get_or}
-use lib.ListN.{length-set}
-use native.Mathlib.Omega.{arith}
-use borrow.Author.Tests.{eq-eqb, ne_eqb, lt-ltb, le-ltb, le-leb, lt-leb}
-use Rattle.endings.specs.Laws.{met_if, met_else, refuses, node_word}
+use borrow.Author.Tests.{le-leb, lt-leb}
+use Rattle.endings.specs.Laws.{met_if, met_else}
 use Rattle.definitions.specs.Lines.{line_5}
-use borrow.Author.Rules.{rules}
 use Rattle.lines.proofs.snapshot.line_5.Goals as goal
-
-
 
 pub returns-then-words : goal.returns-then-words
 unfolding line_5

@@ -1,16 +1,9 @@
-use mathlib.Core.Path.{◌≡◌, ◌∙◌, ap, sym}
-use mathlib.Core.List.{[], ◌∷◌}
-use Prim.Native.Nat.{◌+◌, ◌*◌, ◌<◌, ◌≤◌}
-use lib.ListN.{length, get_or}
-use lib.ListN.{length-set}
-use native.Mathlib.Omega.{arith}
-use borrow.Author.Tests.{eq-eqb, ne_eqb, lt-ltb, le-ltb, le-leb, lt-leb}
-use Rattle.endings.specs.Laws.{met_if, met_else, refuses, node_word}
+use Prim.Native.Nat.{◌+◌, ◌*◌}
+use lib.ListN.{get_or}
+use borrow.Author.Tests.{lt-leb}
+use Rattle.endings.specs.Laws.{met_else, node_word}
 use Rattle.definitions.specs.Lines.{line_39}
-use borrow.Author.Rules.{rules}
 use Rattle.lines.proofs.vread.line_39.Goals as goal
-
-
 
 pub returns : goal.returns
 unfolding line_39

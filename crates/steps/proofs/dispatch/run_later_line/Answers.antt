@@ -9,8 +9,6 @@ use Rattle.steps.specs.Dispatch.{kept_told, nothing_kept, at_later, at_rest, res
 use borrow.Author.Rules.{rules}
 use Rattle.steps.proofs.dispatch.run_later_line.Goals as goal
 
-
-
 pub returns-then-kept_at_line_is_damaged : goal.returns-then-kept_at_line_is_damaged
 returns-then-kept_at_line_is_damaged c = let x = c.args in let ws = x.words.now in let m = cells_at x.items_at x.nodes_at ws in met_if _ (kept_told x.row m x.w 39 c.in-39.is (c.kept_at_line_is_damaged.ensures x.items_at x.nodes_at) c.if-kept_at_line_is_damaged.true) (refuses 2 c.refuse.ensures)
 

@@ -1,14 +1,7 @@
-use mathlib.Core.Path.{◌≡◌, ◌∙◌, ap, sym}
-use Prim.Native.Nat.{◌+◌, ◌*◌}
-use lib.ListN.{get_or}
 use native.Mathlib.Omega.{arith}
-use borrow.Author.Tests.{eq-eqb, ne_eqb}
 use Rattle.definitions.specs.Cells.{cells_at}
-use Rattle.facts.specs.Facts.{node_kept, new_node_kept, seen_kept, item_there, sum_small}
-use borrow.Author.Rules.{rules}
+use Rattle.facts.specs.Facts.{item_there}
 use Rattle.steps.proofs.dispatch.run_line_32.Goals as goal
-
-
 
 pub total_32-requires : goal.total_32-requires
 total_32-requires c = let x = c.args in let h = c.requires in

@@ -2,10 +2,7 @@ use native.Mathlib.Omega.{arith}
 use borrow.Author.Tests.{eq-eqb}
 use Rattle.definitions.specs.Cells.{cells_at}
 use Rattle.facts.specs.Facts.{node_kept, item_there, sum_small}
-use borrow.Author.Rules.{rules}
 use Rattle.steps.proofs.dispatch.run_line_34.Goals as goal
-
-
 
 pub line_34-requires : goal.line_34-requires
 line_34-requires c = let x = c.args in let h = c.requires in let m = cells_at x.items_at x.nodes_at x.words.now in (

@@ -5,11 +5,8 @@ use Rattle.definitions.specs.Cells.{cells_at}
 use Rattle.endings.specs.Laws.{met_if, met_else, refuses}
 use Rattle.tables.specs.Ranges.{kept_at}
 use Rattle.facts.specs.Facts.{node_kept, item_there}
-use Rattle.steps.specs.Dispatch.{kept_told, nothing_kept, at_number, later, to_later}
-use borrow.Author.Rules.{rules}
+use Rattle.steps.specs.Dispatch.{kept_told, nothing_kept, at_number}
 use Rattle.steps.proofs.dispatch.run_numbered_line.Goals as goal
-
-
 
 pub returns-then-kept_at_line_is_damaged : goal.returns-then-kept_at_line_is_damaged
 returns-then-kept_at_line_is_damaged c = let x = c.args in let ws = x.words.now in let m = cells_at x.items_at x.nodes_at ws in met_if _ (kept_told x.row m x.w 20 c.in-20.is (c.kept_at_line_is_damaged.ensures x.items_at x.nodes_at) c.if-kept_at_line_is_damaged.true) (refuses 2 c.refuse.ensures)

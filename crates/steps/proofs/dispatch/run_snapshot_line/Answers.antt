@@ -5,10 +5,7 @@ use Rattle.endings.specs.Laws.{met_if, met_else, refuses}
 use Rattle.tables.specs.Ranges.{kept_at}
 use Rattle.facts.specs.Facts.{seen_kept}
 use Rattle.steps.specs.Dispatch.{kept_told, nothing_kept}
-use borrow.Author.Rules.{rules}
 use Rattle.steps.proofs.dispatch.run_snapshot_line.Goals as goal
-
-
 
 pub returns-then-row-eq5 : goal.returns-then-row-eq5
 unfolding kept_at

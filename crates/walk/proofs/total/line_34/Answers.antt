@@ -1,20 +1,15 @@
-use mathlib.Core.Path.{◌≡◌, ◌∙◌, sym}
+use mathlib.Core.Path.{◌∙◌, sym}
 use mathlib.Core.List.{List}
 use mathlib.Core.Bool.{Bool, true, false, cond}
 use Prim.Native.Nat.{ℕ, ◌+◌, ◌*◌}
 use lib.Dec.{eqb}
 use lib.ListN.{get_or}
-use native.Mathlib.Omega.{arith}
 use borrow.Author.Tests.{eq-eqb, ne_eqb, lt-ltb, le-ltb}
 use Rattle.definitions.specs.declared.Answer.{Answer}
-use Rattle.definitions.specs.Cells.{cells_at}
-use Rattle.definitions.specs.Lines.{line, line_34, total_34, too_new, tested_node}
+use Rattle.definitions.specs.Lines.{line, line_34, total_34, tested_node}
 use Rattle.endings.specs.Stepped.{Steps}
-use Rattle.endings.specs.Laws.{met_if, met_else, refuses, node_word, tested_is, older_there}
-use borrow.Author.Rules.{rules}
+use Rattle.endings.specs.Laws.{met_if, met_else, node_word, tested_is}
 use Rattle.walk.proofs.total.line_34.Goals as goal
-
-
 
 -- What both operations do at line 34, whichever it is.
 

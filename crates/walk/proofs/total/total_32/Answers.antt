@@ -1,16 +1,7 @@
-use mathlib.Core.Path.{◌≡◌, ◌∙◌, ap, sym}
-use mathlib.Core.List.{[], ◌∷◌, ◌++◌}
-use Prim.Native.Nat.{◌+◌, ◌*◌, ◌<◌, ◌≤◌}
-use lib.ListN.{length, get_or}
-use borrow.Author.Tests.{eq-eqb, ne_eqb, lt-ltb, le-ltb, le-leb, lt-leb}
-use Rattle.endings.specs.Laws.{met_if, met_else, refuses, node_word}
+use borrow.Author.Tests.{lt-ltb, le-ltb}
+use Rattle.endings.specs.Laws.{met_if, met_else}
 use Rattle.definitions.specs.Lines.{total_32}
-use native.Mathlib.Omega.{arith}
-use lib.ListN.{length-set}
-use borrow.Author.Rules.{rules}
 use Rattle.walk.proofs.total.total_32.Goals as goal
-
-
 
 pub returns-then-words-at : goal.returns-then-words-at
 unfolding total_32
