@@ -6,7 +6,7 @@ if [ $# -eq 0 ]; then echo "usage: bash host/build.sh NAME [MORE..]" >&2; exit 2
 . host/machine.sh
 # rt proves the archive where there is none (host/archive.sh asks again where it is too old), and has the emulator for other machines
 if [ "$native" = yes ] && [ -f target/staticlib/libcatalogue.a ]; then prover=(); else prover=(rt); fi
-needs "${prover[@]}" "$compiler" bash find mkdir tee uname
+needs "${prover[@]}" "$compiler" bash cp find mkdir mv tee uname
 if ! echo '#include <stdio.h>' | "$compiler" -E - > /dev/null 2>&1; then
   echo "missing: the C library's headers for $compiler (Debian: apt-get install libc6-dev, on Arm libc6-dev-amd64-cross). Nothing was done." >&2
   exit 1

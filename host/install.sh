@@ -112,7 +112,8 @@ put_all "$prefix/share/doc/goravesha/docs" docs/*
 put_all "$prefix/share/doc/goravesha/docs/landings" docs/landings/*
 put_all "$share/examples" host/example* host/python/example*
 for file in tools/*.py tools/*.html; do
-  case $file in tools/put_edit.py) ;; *) put_all "$share/tools" "$file" ;; esac   # put_edit.py is the gate's own
+  # put_edit.py is the gate's own, and the other two brought the repository to a newer Rattle
+  case $file in tools/put_edit.py | tools/respell_names.py | tools/theorems_to_proofs.py) ;; *) put_all "$share/tools" "$file" ;; esac
 done
 # the wrapper without its tests, which are of this repository
 while IFS= read -r file; do put 644 "$file" "$share/rust/${file#host/rust/}"; done < <(find host/rust \( -name target -o -name tests \) -prune -o -type f -print)
@@ -120,6 +121,6 @@ put 644 host/package/uninstall.sh "$share/uninstall.sh"
 list+=("$share/installed.txt")
 printf '%s\n' "${list[@]}" | LC_ALL=C sort -u > "$kept"
 
-if [ -n "$missing" ]; then echo "not built, so neither installed nor its man page:$missing ('rt check$missing' proves and builds)"; fi
+if [ -n "$missing" ]; then echo "not built, so neither installed nor its man page:$missing ('bash host/programs.sh$missing' proves and builds)"; fi
 if [ "$shared" = yes ]; then echo "run ldconfig, or set LD_LIBRARY_PATH, where the loader does not look into $libdir"; fi
 echo "installed below $below$prefix/; 'bash $below$share/uninstall.sh' removes it again"

@@ -1,6 +1,7 @@
 #!/usr/bin/env bash
 # usage: bash host/shared.sh [FOLDER]: the proved archive as a shared library for x86-64, in FOLDER (target/shared unless said): libgoravesha.so.VERSION, with
-# the header's version, soname libgoravesha.so.MAJOR, and the two links to it that loaders and linkers look for. Its last line is the library's name.
+# the header's version, soname libgoravesha.so.MAJOR, and the two links to it that loaders and linkers look for (inside this checkout, where rt ci refuses
+# links, the same file under their names). Its last line is the library's name.
 set -eu
 folder=${1:-}
 case $folder in ''|/*) ;; *) folder=$PWD/$folder ;; esac
@@ -16,6 +17,10 @@ library=$folder/libgoravesha.so.$version
 # All of the archive, not only what is asked for; nothing may be missing but what libc has. At once, since another may be loading it.
 "$compiler" -shared -Wl,-soname,"libgoravesha.so.$major" -Wl,-z,defs -Wl,--whole-archive target/staticlib/libcatalogue.a -Wl,--no-whole-archive -o "$library.$$"
 mv "$library.$$" "$library"
-ln -sfn "libgoravesha.so.$version" "$folder/libgoravesha.so.$major"
-ln -sfn "libgoravesha.so.$major" "$folder/libgoravesha.so"
+if [[ $(realpath -m -- "$folder")/ == "$(pwd -P)"/* ]]; then
+  for name in "libgoravesha.so.$major" libgoravesha.so; do ln -f "$library" "$folder/$name"; done
+else
+  ln -sfn "libgoravesha.so.$version" "$folder/libgoravesha.so.$major"
+  ln -sfn "libgoravesha.so.$major" "$folder/libgoravesha.so"
+fi
 echo "$library"

@@ -48,7 +48,7 @@ notices ANOTHER_NUMBER goravesha_step '5 was to be answered'
 
 # Where a need is missing, one or all: one line that names it, and nothing is done.
 cp -R host include crates.txt "$there"
-needed=(rt bash find mkdir tee)
+needed=(rt bash cp find mkdir mv tee)
 case $compiler in */*) ;; *) needed=(rt "$compiler" "${needed[@]:1}") ;; esac   # a path is found without PATH
 without() { # PATH NEED..: run with this PATH, these are named in one line
   if said=$(PATH=$1 "$BASH" "$there/host/page.sh" 2>&1); then echo "page: it ran without ${*:2}"; exit 1; fi
@@ -65,5 +65,5 @@ for one in "${needed[@]}"; do
   without "$there/bin" "$one"
   [ "$named" = " $one " ] || { echo "page: without $one alone it says: $said"; exit 1; }
 done
-without /nowhere rt bash find mkdir tee uname
+without /nowhere rt bash cp find mkdir mv tee uname
 echo "page: of one moment, its numbers right; three faults noticed; what is missing is named in one line"

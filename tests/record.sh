@@ -6,6 +6,7 @@ cd "$(dirname "$0")/.."
 . host/machine.sh
 needs_compiler "the recorder"
 bash host/archive.sh
+bash host/programs.sh schedule
 program=$(runnable target/bin/schedule)
 there=$(mktemp -d)
 trap 'rm -rf "$there"' EXIT

@@ -3,6 +3,7 @@
 # usage: tests/soak.sh [PROGRAM]
 cd "$(dirname "$0")/.." || exit 2
 . host/machine.sh
+[ "$#" -gt 0 ] || bash host/programs.sh soak || exit 1
 program=${1:-$(runnable target/bin/soak)}
 failed=0
 usage='usage: soak [SEED [ROUNDS]]'

@@ -2,6 +2,7 @@
 # The wrappers schedule-status and soak-status, from a folder of their own as if installed: their status, and that output passes through unchanged.
 cd "$(dirname "$0")/.." || exit 2
 . host/machine.sh
+bash host/programs.sh || exit 1
 there=$(mktemp -d)
 trap 'rm -rf "$there"' EXIT
 failed=0

@@ -4,6 +4,7 @@
 # usage: tests/streams.sh [PROGRAM]
 cd "$(dirname "$0")/.." || exit 2
 . host/machine.sh
+[ "$#" -gt 0 ] || bash host/programs.sh schedule || exit 1
 program=${1:-$(runnable target/bin/schedule)}
 bad=1d00000000000000000000
 failed=0

@@ -2,6 +2,7 @@
 # Runs schedule on every tests/vectors/NAME.in and holds what it prints to NAME.out, byte for byte. usage: tests/vectors.sh [PROGRAM]
 cd "$(dirname "$0")/.." || exit 2
 . host/machine.sh
+[ "$#" -gt 0 ] || bash host/programs.sh schedule || exit 1
 program=${1:-$(runnable target/bin/schedule)}
 passed=0
 failed=0

@@ -5,7 +5,7 @@ cd "$(dirname "$0")/../.." || exit 2
 if [ "$(uname -m)" != x86_64 ]; then echo "to be run on x86-64: under an emulator a time says nothing" >&2; exit 2; fi
 bytes=${1:-50000000}
 rounds=${2:-9}
-if [ ! -x target/bin/schedule ]; then echo "missing: target/bin/schedule ('rt check schedule' proves and builds it)" >&2; exit 2; fi
+if [ ! -x target/bin/schedule ]; then echo "missing: target/bin/schedule ('bash host/programs.sh schedule' proves and builds it)" >&2; exit 2; fi
 work=$(mktemp -d) || exit 2
 trap 'rm -rf "$work"' EXIT
 cc=${CC:-gcc}
