@@ -53,6 +53,10 @@ def declared():
         for line in read(path).split("\n"):
             top = DECLARED.match(line)
             inner = INNER.match(line.strip()) if line.startswith(" ") else None
+            section = DECLARED.match(line.strip()) if re.match(r" +(pub )?(abbrev|unfoldable|record|data) ", line) else None
+            if section:
+                kind = bool(section.group(2)) or bool(re.search(r"(^|→ |: )Type \d+$", section.group(4).strip()))
+                names[section.group(3).strip("◌_")] |= kind
             if top and not line.startswith((" ", "--")):
                 inside = bool(top.group(2))
                 kind = bool(top.group(2)) or bool(re.search(r"(^|→ |: )Type \d+$", top.group(4).strip()))

@@ -57,12 +57,12 @@ module _ (p m n : ℕ) (f g : Cells) (H : HeaderIn p m n f) (A : (c : Cell) → 
     before_step_same = rw (A (phase w) l, A (steps w) l, A (seen w) l, A counter_limit (omega arith))
 
     -- a line on two functions that agree: its test of node words and what it does are the same
-    pub record Same_line (r : PhaseRow) (x : Line) : Type 0 where
+    pub record SameLine (r : PhaseRow) (x : Line) : Type 0 where
       pub tests : x.damaged g w ≡ x.damaged f w
       pub does : x.does g w ≡ x.does f w
 
-    abbrev Line_same : PhaseRow → Line → Type 0
-    Line_same r x = KeptIn r f w → Same_line r x
+    abbrev LineSame : PhaseRow → Line → Type 0
+    LineSame r x = KeptIn r f w → SameLine r x
 
     item_in : (r : PhaseRow) → KeptIn r f w → inside_item r ≡ true → f (item w) < m
     item_in r k t = omega (arith, k.item_in t, H.items_in)
@@ -70,66 +70,66 @@ module _ (p m n : ℕ) (f g : Cells) (H : HeaderIn p m n f) (A : (c : Cell) → 
     node_in : (r : PhaseRow) → KeptIn r f w → keeps_node r ≡ true → f (node w) < n
     node_in r k t = omega (arith, k.node_in t, H.used_in)
 
-    fetch_same : (r : PhaseRow) → inside_item r ≡ true → Line_same r fetch
+    fetch_same : (r : PhaseRow) → inside_item r ≡ true → LineSame r fetch
     fetch_same r t k = record {
       tests = refl;
       does = unfold fetch_head in
           rw (A (phase w) l, A (steps w) l, A (item w) l, A (head (f (item w))) (item_in r k t));
     }
 
-    twenty_same : (r : PhaseRow) → keeps_node r ≡ true → Line_same r help_20
+    twenty_same : (r : PhaseRow) → keeps_node r ≡ true → LineSame r help_20
     twenty_same r t k = record {
       tests = rw (A (node w) l, A counter (omega arith), A (stamp (f (node w))) (node_in r k t));
       does = unfold line_20 in rw (A (phase w) l, A (steps w) l, A (node w) l, A (stamp (f (node w))) (node_in r k t));
     }
 
-    twenty_one_same : (r : PhaseRow) → Line_same r help_21
+    twenty_one_same : (r : PhaseRow) → LineSame r help_21
     twenty_one_same r k = record { tests = refl; does = unfold line_21 in rw (A (phase w) l, A (steps w) l, A counter (omega arith)) }
 
-    twenty_two_same : (r : PhaseRow) → keeps_node r ≡ true → Line_same r help_22
+    twenty_two_same : (r : PhaseRow) → keeps_node r ≡ true → LineSame r help_22
     twenty_two_same r t k = record {
       tests = rw (A (node w) l, A counter (omega arith), A (stamp (f (node w))) (node_in r k t));
       does = unfold line_22 in rw (A (phase w) l, A (steps w) l, A (node w) l, A (seen w) l, A (stamp (f (node w))) (node_in r k t));
     }
 
-    line_39_same : (r : PhaseRow) → keeps_node r ≡ true → Line_same r (line its_value line_39)
+    line_39_same : (r : PhaseRow) → keeps_node r ≡ true → LineSame r (line its_value line_39)
     line_39_same r t k = record {
       tests = rw (A (node w) l, A projects (omega arith), A (value (f (node w))) (node_in r k t));
       does = unfold line_39 in rw (A (steps w) l, A (node w) l, A (value (f (node w))) (node_in r k t));
     }
 
-    line_43_same : (r : PhaseRow) → keeps_node r ≡ true → Line_same r (line its_value line_43)
+    line_43_same : (r : PhaseRow) → keeps_node r ≡ true → LineSame r (line its_value line_43)
     line_43_same r t k = record {
       tests = rw (A (node w) l, A projects (omega arith), A (value (f (node w))) (node_in r k t));
       does = unfold line_43 in rw (A (phase w) l, A (steps w) l, A (node w) l, A (old w) l, A (new w) l, A (value (f (node w))) (node_in r k t));
     }
 
-    line_46_same : (r : PhaseRow) → inside_item r ≡ true → Line_same r (line no_words line_46)
+    line_46_same : (r : PhaseRow) → inside_item r ≡ true → LineSame r (line no_words line_46)
     line_46_same r t k = record {
       tests = refl;
       does = unfold line_46 in rw (A (steps w) l, A (node w) l, A (new_node w) l, A (item w) l, A (head (f (item w))) (item_in r k t));
     }
 
-    line_48_same : (r : PhaseRow) → Line_same r (line no_words line_48)
+    line_48_same : (r : PhaseRow) → LineSame r (line no_words line_48)
     line_48_same r k = record { tests = refl; does = unfold line_48 in rw (A (steps w) l) }
 
-    line_52_same : (r : PhaseRow) → Line_same r (line no_words line_52)
+    line_52_same : (r : PhaseRow) → LineSame r (line no_words line_52)
     line_52_same r k = record { tests = refl; does = unfold line_52 in rw (A (steps w) l) }
 
-    line_5_same : (r : PhaseRow) → Line_same r (line no_words line_5)
+    line_5_same : (r : PhaseRow) → LineSame r (line no_words line_5)
     line_5_same r k = record {
       tests = refl;
       does = unfold line_5 in
           rw (A (phase w) l, A (steps w) l, A counter (omega arith), A counter_limit (omega arith));
     }
 
-    line_6_same : (r : PhaseRow) → Line_same r (line no_words line_6)
+    line_6_same : (r : PhaseRow) → LineSame r (line no_words line_6)
     line_6_same r k = record { tests = refl; does = unfold line_6 in rw (A (steps w) l, A (seen w) l, A counter (omega arith)) }
 
-    closing_same : (r : PhaseRow) → Line_same r (line no_words closing)
+    closing_same : (r : PhaseRow) → LineSame r (line no_words closing)
     closing_same r k = record { tests = refl; does = unfold closing in rw (A (steps w) l, A (sum_low w) l, A (sum_high w) l) }
 
-    idle_same : (r : PhaseRow) → Line_same r idle
+    idle_same : (r : PhaseRow) → LineSame r idle
     idle_same r k = record { tests = refl; does = refl }
 
     tested_same : (r : PhaseRow) → keeps_node r ≡ true → KeptIn r f w → tested_node g w ≡ tested_node f w
@@ -145,7 +145,7 @@ module _ (p m n : ℕ) (f g : Cells) (H : HeaderIn p m n f) (A : (c : Cell) → 
           A (value (f (node w))) (node_in r k t),
         )
 
-    line_34_same : (r : PhaseRow) → keeps_node r ≡ true → Line_same r (line tested_node line_34)
+    line_34_same : (r : PhaseRow) → keeps_node r ≡ true → LineSame r (line tested_node line_34)
     line_34_same r t k = record {
       tests = tested_same r t k;
       does = unfold line_34 in
@@ -160,7 +160,7 @@ module _ (p m n : ℕ) (f g : Cells) (H : HeaderIn p m n f) (A : (c : Cell) → 
           );
     }
 
-    total_32_same : (r : PhaseRow) → inside_item r ≡ true → Line_same r (line no_words total_32)
+    total_32_same : (r : PhaseRow) → inside_item r ≡ true → LineSame r (line no_words total_32)
     total_32_same r t k = record {
       tests = refl;
       does = unfold total_32 in
@@ -175,7 +175,7 @@ module _ (p m n : ℕ) (f g : Cells) (H : HeaderIn p m n f) (A : (c : Cell) → 
           );
     }
 
-    total_34_same : (r : PhaseRow) → keeps_node r ≡ true → inside_item r ≡ true → Line_same r (line tested_node total_34)
+    total_34_same : (r : PhaseRow) → keeps_node r ≡ true → inside_item r ≡ true → LineSame r (line tested_node total_34)
     total_34_same r t u k = record {
       tests = tested_same r t k;
       does = unfold total_34 in
@@ -238,7 +238,7 @@ module _ (p m n : ℕ) (f g : Cells) (H : HeaderIn p m n f) (A : (c : Cell) → 
     ends_same : ends_with g w 11 ≡ ends_with f w 11
     ends_same = rw (A (steps w) l)
 
-    line_45_same : (r : PhaseRow) → Line_same w l r (line taken_node line_45)
+    line_45_same : (r : PhaseRow) → LineSame w l r (line taken_node line_45)
     line_45_same r k = record {
       tests = taken_words;
       does = unfold line_45 in choice_same (no_node f) (no_node g) no_node_same ends_same
@@ -251,13 +251,13 @@ module _ (p m n : ℕ) (f g : Cells) (H : HeaderIn p m n f) (A : (c : Cell) → 
         link_same : older_damaged g (g (new_node w)) ≡ older_damaged f (f (new_node w))
         link_same = rw (A (new_node w) l, A used (omega arith), A (older (f (new_node w))) (omega (arith, b, H.used_in)))
 
-    line_50_same : (r : PhaseRow) → keeps_new_node r ≡ true → Line_same w l r (line returned_node line_50)
+    line_50_same : (r : PhaseRow) → keeps_new_node r ≡ true → LineSame w l r (line returned_node line_50)
     line_50_same r t k = record {
       tests = returned_same (k.new_node_in t);
       does = unfold line_50 in rw (A (phase w) l, A (steps w) l, A (new_node w) l, A given_back (omega arith));
     }
 
-    every_row : Rows (Line_same w l) table lines
+    every_row : Rows (LineSame w l) table lines
     unfolding table lines
     every_row = (
       idle_same w l _,
@@ -357,8 +357,8 @@ module _ (p m n : ℕ) (f g : Cells) (H : HeaderIn p m n f) (A : (c : Cell) → 
       ),
     )
 
-    line_same : (k : ℕ) → k ≤ 35 → KeptIn (row_of k) f w → Same_line w l (row_of k) (line_of_phase k)
-    line_same = at_phase (Line_same w l) every_row
+    line_same : (k : ℕ) → k ≤ 35 → KeptIn (row_of k) f w → SameLine w l (row_of k) (line_of_phase k)
+    line_same = at_phase (LineSame w l) every_row
 
   -- ---- the calls
   no_worker_same : (w : ℕ) → no_worker g w ≡ no_worker f w
@@ -426,7 +426,7 @@ module _ (p m n : ℕ) (f g : Cells) (H : HeaderIn p m n f) (A : (c : Cell) → 
   after_same w l b =
       or_same (eqb ph 0) (eqb ph 0) (refused 5) refl
       (λ c. let k : KeptIn (row_of ph) f w = busy_kept f w b c in
-      let x : Same_line w l (row_of ph) (line_of_phase ph) = line_same w l ph (ltb-false 35 ph (first_false (ltb 35 ph) known b)) k in
+      let x : SameLine w l (row_of ph) (line_of_phase ph) = line_same w l ph (ltb-false 35 ph (first_false (ltb 35 ph) known b)) k in
       or_same (inside_item (row_of ph) && item_damaged f (f (item w))) (inside_item (row_of ph) && item_damaged g (g (item w))) (refused 2)
       (ap (λ (i : ℕ). inside_item (row_of ph) && item_damaged g i) (A (item w) l) ∙ inside_same w l (row_of ph) k)
       (λ d. or_same ((line_of_phase ph).damaged f w) ((line_of_phase ph).damaged g w) (refused 2) x.tests (λ e. x.does)))

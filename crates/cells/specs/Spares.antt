@@ -127,23 +127,23 @@ module _ (p m n : ℕ) (f : Cells) (H : HeaderIn p m n f) where
     two : Proper p m n (phase w ≔ 0 ∷ steps w ≔ 0 ∷ [])
     two = (l, omega arith, (l, omega arith, tt))
 
-    Line_fine : PhaseRow → Line → Type 0
-    Line_fine r x = KeptIn r f w → Fine (x.does f w)
+    LineFine : PhaseRow → Line → Type 0
+    LineFine r x = KeptIn r f w → Fine (x.does f w)
 
-    fetch_fine : (r : PhaseRow) → Line_fine r fetch
-    unfolding Line_fine fetch_head
+    fetch_fine : (r : PhaseRow) → LineFine r fetch
+    unfolding LineFine fetch_head
     fetch_fine r k = (l, omega arith, two)
 
-    twenty_fine : (r : PhaseRow) → Line_fine r help_20
-    unfolding Line_fine line_20
+    twenty_fine : (r : PhaseRow) → LineFine r help_20
+    unfolding LineFine line_20
     twenty_fine r k = two
 
-    twenty_one_fine : (r : PhaseRow) → Line_fine r help_21
-    unfolding Line_fine line_21
+    twenty_one_fine : (r : PhaseRow) → LineFine r help_21
+    unfolding LineFine line_21
     twenty_one_fine r k = (l, omega arith, two)
 
-    twenty_two_fine : (r : PhaseRow) → keeps_node r ≡ true → Line_fine r help_22
-    unfolding Line_fine line_22
+    twenty_two_fine : (r : PhaseRow) → keeps_node r ≡ true → LineFine r help_22
+    unfolding LineFine line_22
     twenty_two_fine r e k = by_test Fine (succeeds_22 f w) (λ d. (omega (arith, k.node_in e, H.used_in), omega arith, two)) (λ d. two)
 
     -- a line that answers clears the record
@@ -153,69 +153,69 @@ module _ (p m n : ℕ) (f : Cells) (H : HeaderIn p m n f) where
     older_fine : Fine (to_older f w)
     older_fine = (l, omega arith, two)
 
-    line_39_fine : (r : PhaseRow) (d : Cells → ℕ → Bool) → Line_fine r (line d line_39)
-    unfolding Line_fine line_39
+    line_39_fine : (r : PhaseRow) (d : Cells → ℕ → Bool) → LineFine r (line d line_39)
+    unfolding LineFine line_39
     line_39_fine r d k = answers_fine
 
-    line_43_fine : (r : PhaseRow) (d : Cells → ℕ → Bool) → Line_fine r (line d line_43)
-    unfolding Line_fine line_43
+    line_43_fine : (r : PhaseRow) (d : Cells → ℕ → Bool) → LineFine r (line d line_43)
+    unfolding LineFine line_43
     line_43_fine r d k = by_test Fine (eqb (f (value (f (node w)))) (f (old w)))
         (λ a. by_test Fine (eqb (f (new w)) (f (old w))) (λ b. answers_fine) (λ b. two)) (λ a. answers_fine)
 
-    line_45_fine : (r : PhaseRow) (d : Cells → ℕ → Bool) → Line_fine r (line d line_45)
-    unfolding Line_fine line_45
+    line_45_fine : (r : PhaseRow) (d : Cells → ℕ → Bool) → LineFine r (line d line_45)
+    unfolding LineFine line_45
     line_45_fine r d k = by_test Fine (no_node f) (λ a. answers_fine)
         (λ a. let y : node_to_take f < n = taken_in a in
         let four : Proper p m n (value (node_to_take f) ≔ 0 ∷ older (node_to_take f) ≔ 0 ∷ stamp (node_to_take f) ≔ 0 ∷ new_node w ≔ 0 ∷ []) =
         (y, omega arith, (y, omega arith, (y, omega arith, (l, omega arith, tt)))) in
         both (taking f ++ _) _ (after_taking _ four) two)
 
-    line_46_fine : (r : PhaseRow) (d : Cells → ℕ → Bool) → inside_item r ≡ true → Line_fine r (line d line_46)
-    unfolding Line_fine line_46
+    line_46_fine : (r : PhaseRow) (d : Cells → ℕ → Bool) → inside_item r ≡ true → LineFine r (line d line_46)
+    unfolding LineFine line_46
     line_46_fine r d e k = by_test Fine (succeeds_46 f w)
         (λ a. (omega (arith, k.item_in e, H.items_in), omega arith, (l, omega arith, two))) (λ a. two)
 
-    line_48_fine : (r : PhaseRow) (d : Cells → ℕ → Bool) → Line_fine r (line d line_48)
-    unfolding Line_fine line_48
+    line_48_fine : (r : PhaseRow) (d : Cells → ℕ → Bool) → LineFine r (line d line_48)
+    unfolding LineFine line_48
     line_48_fine r d k = answers_fine
 
-    line_50_fine : (r : PhaseRow) (d : Cells → ℕ → Bool) → keeps_new_node r ≡ true → Line_fine r (line d line_50)
-    unfolding Line_fine line_50
+    line_50_fine : (r : PhaseRow) (d : Cells → ℕ → Bool) → keeps_new_node r ≡ true → LineFine r (line d line_50)
+    unfolding LineFine line_50
     line_50_fine r d e k = (omega (arith, k.new_node_in e, H.used_in), omega arith, (omega arith, omega arith, two))
 
-    line_52_fine : (r : PhaseRow) (d : Cells → ℕ → Bool) → Line_fine r (line d line_52)
-    unfolding Line_fine line_52
+    line_52_fine : (r : PhaseRow) (d : Cells → ℕ → Bool) → LineFine r (line d line_52)
+    unfolding LineFine line_52
     line_52_fine r d k = answers_fine
 
-    line_5_fine : (r : PhaseRow) (d : Cells → ℕ → Bool) → Line_fine r (line d line_5)
-    unfolding Line_fine line_5
+    line_5_fine : (r : PhaseRow) (d : Cells → ℕ → Bool) → LineFine r (line d line_5)
+    unfolding LineFine line_5
     line_5_fine r d k = by_test Fine (counter_full f) (λ a. answers_fine) (λ a. (l, omega arith, two))
 
-    line_6_fine : (r : PhaseRow) (d : Cells → ℕ → Bool) → Line_fine r (line d line_6)
-    unfolding Line_fine line_6
+    line_6_fine : (r : PhaseRow) (d : Cells → ℕ → Bool) → LineFine r (line d line_6)
+    unfolding LineFine line_6
     line_6_fine r d k = by_test Fine (succeeds_6 f w) (λ a. (omega arith, omega arith, answers_fine)) (λ a. answers_fine)
 
-    line_34_fine : (r : PhaseRow) (d : Cells → ℕ → Bool) → Line_fine r (line d line_34)
-    unfolding Line_fine line_34
+    line_34_fine : (r : PhaseRow) (d : Cells → ℕ → Bool) → LineFine r (line d line_34)
+    unfolding LineFine line_34
     line_34_fine r d k = by_test Fine (too_new f w) (λ a. older_fine) (λ a. answers_fine)
 
-    total_32_fine : (r : PhaseRow) (d : Cells → ℕ → Bool) → Line_fine r (line d total_32)
-    unfolding Line_fine total_32
+    total_32_fine : (r : PhaseRow) (d : Cells → ℕ → Bool) → LineFine r (line d total_32)
+    unfolding LineFine total_32
     total_32_fine r d k = by_test Fine (ltb (f (handle w)) (f (birth (f (item w))))) (λ a. (l, omega arith, two)) (λ a. (l, omega arith, two))
 
-    total_34_fine : (r : PhaseRow) (d : Cells → ℕ → Bool) → Line_fine r (line d total_34)
-    unfolding Line_fine total_34
+    total_34_fine : (r : PhaseRow) (d : Cells → ℕ → Bool) → LineFine r (line d total_34)
+    unfolding LineFine total_34
     total_34_fine r d k = by_test Fine (too_new f w) (λ a. older_fine) (λ a. (l, omega arith, (l, omega arith, (l, omega arith, two))))
 
-    closing_fine : (r : PhaseRow) (d : Cells → ℕ → Bool) → Line_fine r (line d closing)
-    unfolding Line_fine closing
+    closing_fine : (r : PhaseRow) (d : Cells → ℕ → Bool) → LineFine r (line d closing)
+    unfolding LineFine closing
     closing_fine r d k = answers_fine
 
-    idle_fine : (r : PhaseRow) → Line_fine r idle
-    unfolding Line_fine
+    idle_fine : (r : PhaseRow) → LineFine r idle
+    unfolding LineFine
     idle_fine r k = tt
 
-    every_row : Rows Line_fine table lines
+    every_row : Rows LineFine table lines
     unfolding table lines
     every_row = (
       idle_fine _,
@@ -319,8 +319,8 @@ module _ (p m n : ℕ) (f : Cells) (H : HeaderIn p m n f) where
     )
 
     line_fine : (k : ℕ) → k ≤ 35 → KeptIn (row_of k) f w → Fine ((line_of_phase k).does f w)
-    unfolding Line_fine
-    line_fine = at_phase Line_fine every_row
+    unfolding LineFine
+    line_fine = at_phase LineFine every_row
 
   -- ---- the calls
 

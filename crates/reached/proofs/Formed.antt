@@ -67,20 +67,20 @@ module _ (f : Cells) (m : Memory) (own : ℕ → Owner) (S : SharedImage m (shar
       one_more = omega arith
 
   -- a node k below the head is version (versions - 1 - k)
-  pub record In_list (i k n : ℕ) : Type 0 where
+  pub record InList (i k n : ℕ) : Type 0 where
     pub item_in : i < m.items
     pub number : ℕ
     pub position : k + number ≡ pred (m.item i).versions
     pub there : number < (m.item i).versions
     pub node_is : (m.item i).node number ≡ n
 
-  in_list_is : (i k n : ℕ) → StandsAt f n (in_list i k) → In_list i k n
+  in_list_is : (i k n : ℕ) → StandsAt f n (in_list i k) → InList i k n
   in_list_is i k n h = at (split k (m.item i).versions)
     where
       l : i < m.items
       l = omega (arith, h.0, S.items_are)
 
-      at : Split k (m.item i).versions → In_list i k n
+      at : Split k (m.item i).versions → InList i k n
       at (Split.less p) = record {
         item_in = l;
         number = pred (m.item i).versions - k;
@@ -111,12 +111,12 @@ module _ (f : Cells) (m : Memory) (own : ℕ → Owner) (S : SharedImage m (shar
       further = omega (arith, waits_few l d n h)
 
   -- a node k below the first is the one with (length - 1 - k) below it
-  pub record In_chain (l : List ℕ) (k n : ℕ) : Type 0 where
+  pub record InChain (l : List ℕ) (k n : ℕ) : Type 0 where
     pub depth : ℕ
     pub position : suc (k + depth) ≡ length l
     pub owner : own n ≡ waits depth
 
-  in_chain : (first : ℕ) (l : List ℕ) → Chain own (λ (y : ℕ). f (older y)) first l → (k n : ℕ) → link_after f first k ≡ suc n → In_chain l k n
+  in_chain : (first : ℕ) (l : List ℕ) → Chain own (λ (y : ℕ). f (older y)) first l → (k n : ℕ) → link_after f first k ≡ suc n → InChain l k n
   in_chain first [] c k n e = absurd (omega (arith, e, ap (λ (x : ℕ). link_after f x k) c, past_end f k))
   in_chain first (y ∷ l) c zero n e = record { depth = length l; position = omega arith; owner = subst (λ (x : ℕ). own x ≡ waits (length l)) same c.1 }
     where
@@ -125,7 +125,7 @@ module _ (f : Cells) (m : Memory) (own : ℕ → Owner) (S : SharedImage m (shar
   in_chain first (y ∷ l) c (suc k) n e = further (in_chain (f (older y)) l c.2 k n
       (sym (link_front f first k ∙ ap (λ (x : ℕ). link_after f x k) (ap (next_link f) c.0 ∙ next_of f y)) ∙ e))
     where
-      further : In_chain l k n → In_chain (y ∷ l) (suc k) n
+      further : InChain l k n → InChain (y ∷ l) (suc k) n
       further h = record { depth = h.depth; position = omega (arith, h.position); owner = h.owner }
 
 -- ---- the nodes held
@@ -249,14 +249,14 @@ module _ (f : Cells) (s : Catalogue) (Z : CatalogueImage f s) (F : FewSteps s.wo
   unfolding place_of
   named n (in_list i k) h = sym (ap place_of owner_is ∙ ap (in_list i) (omega (arith, L.position)))
     where
-      L : In_list f s.memory Z.own Z.shared Z.well i k n
+      L : InList f s.memory Z.own Z.shared Z.well i k n
       L = in_list_is f s.memory Z.own Z.shared Z.well i k n h
 
       owner_is : Z.own n ≡ version i L.number
       owner_is = ap Z.own (sym L.node_is) ∙ Z.shared.owner i L.number L.item_in L.there
   named n (returned k) h = sym (ap place_of C.owner ∙ ap returned (omega (arith, C.position)))
     where
-      C : In_chain f s.memory Z.own Z.shared Z.well s.memory.pool.given_back k n
+      C : InChain f s.memory Z.own Z.shared Z.well s.memory.pool.given_back k n
       C = in_chain f s.memory Z.own Z.shared Z.well (f given_back) s.memory.pool.given_back Z.shared.chain k n (h ∙ omega arith)
   named n (held_by w) h = sym (ap place_of (holder w n (omega (arith, h.0, Z.header.workers_are)) h.1 h.2))
 
@@ -273,7 +273,7 @@ module _ (f : Cells) (s : Catalogue) (Z : CatalogueImage f s) (F : FewSteps s.wo
       (f (stamp n) ≡ (s.memory.item i).stamp j)
   behind i k n h = (L.number, omega (arith, L.position), below, L.item_in, stamp_is i L.number n L.item_in below L.node_is)
     where
-      L : In_list f s.memory Z.own Z.shared Z.well i (suc k) n
+      L : InList f s.memory Z.own Z.shared Z.well i (suc k) n
       L = in_list_is f s.memory Z.own Z.shared Z.well i (suc k) n h
 
       below : L.number < (s.memory.item i).valid
@@ -292,7 +292,7 @@ module _ (f : Cells) (s : Catalogue) (Z : CatalogueImage f s) (F : FewSteps s.wo
           (f (stamp x) ≡ (s.memory.item i).stamp j)
       B = behind i k x h
 
-      L : In_list f s.memory Z.own Z.shared Z.well i k n
+      L : InList f s.memory Z.own Z.shared Z.well i k n
       L = in_list_is f s.memory Z.own Z.shared Z.well i k n g
 
       next : (s.memory.item i).node (suc B.0) ≡ n

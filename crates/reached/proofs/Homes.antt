@@ -162,24 +162,24 @@ module _ (m : Memory) (s : Shared) (own : ℕ → Owner) (S : SharedImage m s ow
 
 module _ (t w : ℕ) (m : Memory) (own : ℕ → Owner) (y : ℕ) where
   -- if y was held by w exactly where his phase said so, it is where his next one says so
-  abbrev Keeps_holding : Phase → Next → Type 0
-  Keeps_holding ph x = (own y ≡ held w → Holding ph y) → owner_after w m x.does own y ≡ held w → ComesHolding x.comes y
+  abbrev KeepsHolding : Phase → Next → Type 0
+  KeepsHolding ph x = (own y ≡ held w → Holding ph y) → owner_after w m x.does own y ≡ held w → ComesHolding x.comes y
 
-  pub line_holding : (ph : Phase) → Keeps_holding ph (line t m ph)
+  pub line_holding : (ph : Phase) → KeepsHolding ph (line t m ph)
   unfolding line
   line_holding (line_37 i) = λ h g. absurd (h g)
   line_holding (line_39 i f j) = λ h g. h g
   line_holding (line_41 i a b) = λ h g. absurd (h g)
-  line_holding (line_43 i a b f j) = by_eq (Keeps_holding (line_43 i a b f j)) ((m.item i).value j) a
-      (λ e. by_eq (Keeps_holding (line_43 i a b f j)) b a (λ d h g. h g) (λ d h g. h g)) (λ e h g. h g)
+  line_holding (line_43 i a b f j) = by_eq (KeepsHolding (line_43 i a b f j)) ((m.item i).value j) a
+      (λ e. by_eq (KeepsHolding (line_43 i a b f j)) b a (λ d h g. h g) (λ d h g. h g)) (λ e h g. h g)
   line_holding (line_45 i a b f j) = at (node_to_take m)
     where
-      at : (r : Found) → Keeps_holding (line_45 i a b f j) (on_45 i a b f j r)
+      at : (r : Found) → KeepsHolding (line_45 i a b f j) (on_45 i a b f j r)
       at no_node = λ h g. h g
       at (node v) = λ h. put_all (λ (y : ℕ) (u : Owner). (own y ≡ held w → ⊥) → u ≡ held w → v ≡ y) own v (held w) y (λ d h g. sym d)
           (λ d h g. absurd (h g)) h
   line_holding (line_46 i a b f j v) =
-      by_eq (Keeps_holding (line_46 i a b f j v)) (m.item i).versions (suc j)
+      by_eq (KeepsHolding (line_46 i a b f j v)) (m.item i).versions (suc j)
       (λ e h. put_all (λ (y : ℕ) (u : Owner). (own y ≡ held w → v ≡ y) → u ≡ held w → ⊥) own v (version i (m.item i).versions) y
       (λ d h g. let z : ◌≡◌ {A = ℕ} 0 1 = cc in omega arith) (λ d h g. d (sym (h g))) h)
       (λ e h g. h g)
@@ -189,17 +189,17 @@ module _ (t w : ℕ) (m : Memory) (own : ℕ → Owner) (y : ℕ) where
       (λ d h g. let z : ◌≡◌ {A = ℕ} 0 1 = cc in omega arith) (λ d h g. d (sym (h g))) h
   line_holding (line_51 i a b g) = λ h g. absurd (h g)
   line_holding (line_52 i a b g j) = λ h g. h g
-  line_holding line_5 = by_le (Keeps_holding line_5) m.limits.counter m.camera.counter (λ e h g. h g) (λ e h g. h g)
-  line_holding (line_6 c r) = by_eq (Keeps_holding (line_6 c r)) m.camera.counter c (λ e h g. h g) (λ e h g. h g)
+  line_holding line_5 = by_le (KeepsHolding line_5) m.limits.counter m.camera.counter (λ e h g. h g) (λ e h g. h g)
+  line_holding (line_6 c r) = by_eq (KeepsHolding (line_6 c r)) m.camera.counter c (λ e h g. h g) (λ e h g. h g)
   line_holding (line_32 i a) = λ h g. absurd (h g)
-  line_holding (line_34 i a f j x) = by_lt (Keeps_holding (line_34 i a f j x)) a ((m.item i).stamp x) (λ e h g. h g) (λ e h g. h g)
+  line_holding (line_34 i a f j x) = by_lt (KeepsHolding (line_34 i a f j x)) a ((m.item i).stamp x) (λ e h g. h g) (λ e h g. h g)
   line_holding (total_32 q a k i u) = λ h g. absurd (h g)
   line_holding (total_34 q a k i u f j x) = λ h g. absurd (h g)
   line_holding (closing q a k u) = λ h g. h g
   line_holding (line_20 c j) = λ h g. absurd (h g)
   line_holding (line_21 c j) = λ h g. h g
   line_holding (line_22 c j n r) =
-      by_lt (λ (e : Effect). Keeps_holding (line_22 c j n r) (record { does = e; comes = goes_on (after c j) })) j (m.item (helped_item c)).valid
+      by_lt (λ (e : Effect). KeepsHolding (line_22 c j n r) (record { does = e; comes = goes_on (after c j) })) j (m.item (helped_item c)).valid
       (λ e h g. absurd (h g)) (λ e h g. absurd (h g))
 
   -- and another worker's node is another's before and after

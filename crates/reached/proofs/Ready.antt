@@ -183,11 +183,11 @@ module _ (f : Cells) (m : Memory) (own : ℕ → Owner) (w : ℕ) (X : Standing 
       (omega (arith, X.header.projects_are, X.nodes.value_in (f (node w)) (node_in (f (node w)) l)))
 
   -- a help's three phases have the ranges of one operation's arguments
-  abbrev Help_arguments : Then → Type 0
-  Help_arguments c = ArgumentsFit (row_of (help_number c)) f w × ArgumentsFit (row_of (help_number c + 1)) f w × ArgumentsFit
+  abbrev HelpArguments : Then → Type 0
+  HelpArguments c = ArgumentsFit (row_of (help_number c)) f w × ArgumentsFit (row_of (help_number c + 1)) f w × ArgumentsFit
       (row_of (help_number c + 2)) f w
 
-  help_arguments : (c : Then) → ThenKept (local_of f w) c → ThenKnown m c → Help_arguments c
+  help_arguments : (c : Then) → ThenKept (local_of f w) c → ThenKnown m c → HelpArguments c
   unfolding row_of table
   help_arguments (then_39 i g) k z = let a = item_below i k z in (a, a, a)
   help_arguments (then_43 i x y g) k z = let a = change_fits i x y k z in (a, a, a)

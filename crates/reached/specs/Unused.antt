@@ -292,8 +292,8 @@ module _ (f : Cells) (first_in : f given_back ≤ f used) where
   taken_again e = lt-ltb (f given_back - 1) (f used) (omega (arith, eqb-false (f given_back) 0 e))
 
   module _ (w : ℕ) where
-    abbrev Line_fine : PhaseRow → (Cells → ℕ → Outcome) → Type 0
-    Line_fine r does = KeptIn r f w → f (phase w) ≢ 0 → Fine (does f w)
+    abbrev LineFine : PhaseRow → (Cells → ℕ → Outcome) → Type 0
+    LineFine r does = KeptIn r f w → f (phase w) ≢ 0 → Fine (does f w)
 
     -- a line that answers, and one that goes on at the next phase, writing nothing else or some words
     answered : Keeps f (cleared w)
@@ -311,26 +311,26 @@ module _ (f : Cells) (first_in : f given_back ≤ f used) where
     counter_seen : Body f w (seen w ≔ f counter ∷ [])
     counter_seen = plain f w _ refl refl (λ v. refl) (inl (self w), tt)
 
-    fetch_fine : (r : PhaseRow) → Line_fine r fetch_head
+    fetch_fine : (r : PhaseRow) → LineFine r fetch_head
     unfolding fetch_head
     fetch_fine r k h = next _ fetched
 
-    twenty_fine : (r : PhaseRow) → Line_fine r line_20
+    twenty_fine : (r : PhaseRow) → LineFine r line_20
     unfolding line_20
     twenty_fine r k h = goes f w _ [] (empty f w)
         (one_of_two (eqb (f (stamp (f (node w)))) TBD) (f (phase w) + 1) (f (phase w) + 3) (omega arith) (omega arith))
 
-    twenty_one_fine : (r : PhaseRow) → Line_fine r line_21
+    twenty_one_fine : (r : PhaseRow) → LineFine r line_21
     unfolding line_21
     twenty_one_fine r k h = next _ counter_seen
 
-    twenty_two_fine : (r : PhaseRow) → keeps_node r ≡ true → Line_fine r line_22
+    twenty_two_fine : (r : PhaseRow) → keeps_node r ≡ true → LineFine r line_22
     unfolding line_22
     twenty_two_fine r e k h = by_test Fine (eqb (f (stamp (f (node w)))) TBD)
         (λ d. next (stamp (f (node w)) ≔ f (seen w) ∷ []) (plain f w _ refl refl (λ v. refl) (inl (lt-ltb _ _ (k.node_in e)), tt)))
         (λ d. next [] (empty f w))
 
-    line_43_fine : (r : PhaseRow) → Line_fine r line_43
+    line_43_fine : (r : PhaseRow) → LineFine r line_43
     unfolding line_43
     line_43_fine r k h = by_test Fine (eqb (f (value (f (node w)))) (f (old w)))
         (λ a. by_test Fine (eqb (f (new w)) (f (old w))) (λ b. answered) (λ b. next [] (empty f w))) (λ a. answered)
@@ -350,11 +350,11 @@ module _ (f : Cells) (first_in : f given_back ≤ f used) where
       tidy = (inl refl, (inl (taken_again e), (inl (taken_again e), (inl (taken_again e), (inl (self w), tt)))));
     }
 
-    line_45_fine : (r : PhaseRow) → Line_fine r line_45
+    line_45_fine : (r : PhaseRow) → LineFine r line_45
     unfolding line_45
     line_45_fine r k h = by_test Fine (no_node f) (λ a. answered) (λ a. next _ (line_45_body (eqb (f given_back) 0) refl))
 
-    line_46_fine : (r : PhaseRow) → inside_item r ≡ true → Line_fine r line_46
+    line_46_fine : (r : PhaseRow) → inside_item r ≡ true → LineFine r line_46
     unfolding line_46
     line_46_fine r e k h = by_test Fine (eqb (f (head (f (item w)))) (f (node w)))
         (λ a. goes f w published (head (f (item w)) ≔ f (new_node w) ∷ node w ≔ f (new_node w) ∷ [])
@@ -365,15 +365,15 @@ module _ (f : Cells) (first_in : f given_back ≤ f used) where
     returned : f (new_node w) < f used → Body f w (returning f w)
     returned l = plain f w _ refl refl (λ v. refl) (inl (lt-ltb _ _ l), (inl refl, tt))
 
-    line_50_fine : (r : PhaseRow) → keeps_new_node r ≡ true → Line_fine r line_50
+    line_50_fine : (r : PhaseRow) → keeps_new_node r ≡ true → LineFine r line_50
     unfolding line_50
     line_50_fine r e k h = next (returning f w) (returned (k.new_node_in e))
 
-    line_5_fine : (r : PhaseRow) → Line_fine r line_5
+    line_5_fine : (r : PhaseRow) → LineFine r line_5
     unfolding line_5
     line_5_fine r k h = by_test Fine (leb (f counter_limit) (f counter)) (λ a. answered) (λ a. next _ counter_seen)
 
-    line_6_fine : (r : PhaseRow) → Line_fine r line_6
+    line_6_fine : (r : PhaseRow) → LineFine r line_6
     unfolding line_6
     line_6_fine r k h = by_test Fine (eqb (f counter) (f (seen w)))
         (λ a. ends f w (counter ≔ (f (seen w) + 1) ∷ []) (plain f w _ refl refl (λ v. refl) (inl refl, tt))) (λ a. answered)
@@ -381,7 +381,7 @@ module _ (f : Cells) (first_in : f given_back ≤ f used) where
     older_fine : f (phase w) ≢ 0 → Fine (to_older f w)
     older_fine h = goes f w (f (phase w)) (node w ≔ (f (older (f (node w))) - 1) ∷ []) (plain f w _ refl refl (λ v. refl) (inl (self w), tt)) h
 
-    line_34_fine : (r : PhaseRow) → Line_fine r line_34
+    line_34_fine : (r : PhaseRow) → LineFine r line_34
     unfolding line_34
     line_34_fine r k h = by_test Fine (too_new f w) (λ a. older_fine h) (λ a. answered)
 
@@ -389,18 +389,18 @@ module _ (f : Cells) (first_in : f given_back ≤ f used) where
     next_phase : cond (eqb (f (item w) + 1) (f (noted w))) closing_phase total_start ≢ 0
     next_phase = one_of_two (eqb (f (item w) + 1) (f (noted w))) closing_phase total_start (omega arith) (omega arith)
 
-    total_32_fine : (r : PhaseRow) → Line_fine r total_32
+    total_32_fine : (r : PhaseRow) → LineFine r total_32
     unfolding total_32
     total_32_fine r k h = by_test Fine (ltb (f (handle w)) (f (birth (f (item w)))))
         (λ a. goes f w _ (item w ≔ (f (item w) + 1) ∷ []) (plain f w _ refl refl (λ v. refl) (inl (self w), tt)) next_phase) (λ a. next _ fetched)
 
-    total_34_fine : (r : PhaseRow) → Line_fine r total_34
+    total_34_fine : (r : PhaseRow) → LineFine r total_34
     unfolding total_34
     total_34_fine r k h = by_test Fine (too_new f w) (λ a. older_fine h)
         (λ a. goes f w _ (item w ≔ (f (item w) + 1) ∷ sum_low w ≔ (added f w % 4294967296) ∷ sum_high w ≔ (added f w / 4294967296) ∷ [])
         (plain f w _ refl refl (λ v. refl) (inl (self w), (inl (self w), (inl (self w), tt)))) next_phase)
 
-    every_row : Rows (λ r x. Line_fine r x.does) table lines
+    every_row : Rows (λ r x. LineFine r x.does) table lines
     unfolding table lines line_39 line_48 line_52 closing
     every_row = (
       (λ k h. nothing_changes f),
@@ -504,7 +504,7 @@ module _ (f : Cells) (first_in : f given_back ≤ f used) where
     )
 
     line_fine : (k : ℕ) → k ≤ 35 → KeptIn (row_of k) f w → f (phase w) ≢ 0 → Fine ((line_of_phase k).does f w)
-    line_fine = at_phase (λ r x. Line_fine r x.does) every_row
+    line_fine = at_phase (λ r x. LineFine r x.does) every_row
 
   -- ---- the calls
 

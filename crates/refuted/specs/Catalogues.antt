@@ -20,9 +20,9 @@ module _ (f : Catalogue) where
   abbrev pub start_by : List ℕ → (p m n q c : ℕ) → List ℕ
   start_by ws p m n q c = (f ws (Call.make p m n q c)).words
 
-  abbrev pub Run_by : List ℕ → List Call → Type 0
-  Run_by ws [] = Unit {0}
-  Run_by ws (x ∷ cs) = Run_by ws cs × RunCallBy f (words_by ws cs) x
+  abbrev pub RunBy : List ℕ → List Call → Type 0
+  RunBy ws [] = Unit {0}
+  RunBy ws (x ∷ cs) = RunBy ws cs × RunCallBy f (words_by ws cs) x
 
 -- A catalogue is refuted by a run of it, from an accepted make, after which not all that is demanded holds.
 pub record Refuted (f : Catalogue) : Type 0 where
@@ -34,7 +34,7 @@ pub record Refuted (f : Catalogue) : Type 0 where
   pub c : ℕ
   pub made : (f lent (Call.make p m n q c)).answer.code ≡ 2
   pub calls : List Call
-  pub run : Run_by f (start_by f lent p m n q c) calls
+  pub run : RunBy f (start_by f lent p m n q c) calls
   pub broken : DemandsBy f p m n q c (words_by f (start_by f lent p m n q c) calls) (notes_by f (start_by f lent p m n q c) calls) → ⊥
 
 -- ---- of `outcome` this is what Notes says
@@ -49,6 +49,6 @@ unfolding notes_by notes told_by told
 notes_same ws [] = refl
 notes_same ws (x ∷ cs) = ap₂ (λ (l : List ℕ) (past : List Note). told l x ++ past) (words_same ws cs) (notes_same ws cs)
 
-pub run_same : (ws : List ℕ) (cs : List Call) → Run_by outcome ws cs → Run ws cs
+pub run_same : (ws : List ℕ) (cs : List Call) → RunBy outcome ws cs → Run ws cs
 run_same ws [] r = tt
 run_same ws (x ∷ cs) r = (run_same ws cs r.0, subst (λ (l : List ℕ). RunCall l x) (words_same ws cs) r.1)

@@ -9,7 +9,7 @@ use Rattle.history.specs.Notes.{Note, Catalogue, RunCallBy}
 use Rattle.history.proofs.Examples.{made}
 use Rattle.reached.proofs.Run.{size_of}
 use Rattle.history.specs.Demands.{DemandsBy}
-use Rattle.refuted.specs.Catalogues.{words_by, notes_by, start_by, Run_by, Refuted}
+use Rattle.refuted.specs.Catalogues.{words_by, notes_by, start_by, RunBy, Refuted}
 
 abbrev pub lent : List ℕ
 lent = replicate 80 7
@@ -49,7 +49,7 @@ plain_call f ws x t =
       no_make = λ p m n q c e a. subst (λ (z : Call). T (not (is_make z))) e y.0;
     }
 
-is_run : (f : Catalogue) (ws : List ℕ) (cs : List Call) → T (all_plain cs) → Run_by f ws cs
+is_run : (f : Catalogue) (ws : List ℕ) (cs : List Call) → T (all_plain cs) → RunBy f ws cs
 is_run f ws [] t = tt
 is_run f ws (x ∷ cs) t =
     (is_run f ws cs (and_parts (plain x) (all_plain cs) t).1, plain_call f (words_by f ws cs) x (and_parts (plain x) (all_plain cs) t).0)

@@ -35,15 +35,15 @@ words_needed p m n = 16 + 16 * p + 4 * m + 3 * n
 
 module _ (m : Cells) where
   -- 11: no node waits and all N were used
-  abbrev pub No_node : Type 0
-  No_node = (m given_back ≡ 0) × (m nodes_limit ≤ m used)
+  abbrev pub NoNode : Type 0
+  NoNode = (m given_back ≡ 0) × (m nodes_limit ≤ m used)
 
   -- 11 at 45 and 12 at 5 end the operation, and the answer tells its steps, that step included. Past a sound header, 'C or more' is C
   abbrev pub ends_with : (number w : ℕ) → Type 0 → Refusal
   ends_with k w P = record { applies = P; number = k; steps_told = m (steps w) + 1 }
 
   abbrev pub at_line : ℕ → (w : ℕ) → List Refusal
-  at_line l w = ends_with 11 w ((l ≡ 45) × No_node) ∷ ends_with 12 w ((l ≡ 5) × (m counter_limit ≤ m counter)) ∷ []
+  at_line l w = ends_with 11 w ((l ≡ 45) × NoNode) ∷ ends_with 12 w ((l ≡ 5) × (m counter_limit ≤ m counter)) ∷ []
 
   abbrev pub item_named : ℕ → List Refusal
   item_named i = (m items ≤ i) ⇒ 6 ∷ Outside (words_of_item m i) ⇒ 2 ∷ []
@@ -61,7 +61,7 @@ module _ (m : Cells) where
     abbrev pub refusals : Call → List Refusal
     refusals (Call.make p i n q c) = (Outside (sizes p i n q c) ⊎ (lent < words_needed p i n)) ⇒ 1 ∷ []
     refusals (Call.register v s) =
-        header_damage ∷ (m projects ≤ v) ⇒ 7 ∷ (m items_limit ≤ m items) ⇒ 10 ∷ No_node ⇒ 11 ∷ Outside (first_given_back m (m given_back)) ⇒ 2 ∷ []
+        header_damage ∷ (m projects ≤ v) ⇒ 7 ∷ (m items_limit ≤ m items) ⇒ 10 ∷ NoNode ⇒ 11 ∷ Outside (first_given_back m (m given_back)) ⇒ 2 ∷ []
     refusals (Call.v_read w i) = start w ++ item_named i
     refusals (Call.v_cas w i o n) = start w ++ item_named i ++ (((m projects ≤ o) ⊎ (m projects ≤ n)) ⇒ 7 ∷ [])
     refusals (Call.take_snapshot w) = start w

@@ -120,7 +120,7 @@ use Rattle.runs.specs.UsedWords.{
   total_arguments,
   rows,
 }
-use Rattle.runs.specs.RefusalsInOrder.{Refusal, refuses, Follows, words_needed, No_node, ends_with, at_line}
+use Rattle.runs.specs.RefusalsInOrder.{Refusal, refuses, Follows, words_needed, NoNode, ends_with, at_line}
 use Rattle.runs.specs.TestsSay.{
   Says,
   says_else,
@@ -402,7 +402,7 @@ module _ (m : Cells) (w : ℕ) where
         of_item = item_says m (m (item w));
         of_nodes = taken_says m (m given_back);
         ending =
-            follow (ends_with m 11 w ((45 ≡ 45) × No_node m)) (ends_with m 12 w ((45 ≡ 5) × (m counter_limit ≤ m counter)) ∷ []) (no_node m) _ _
+            follow (ends_with m 11 w ((45 ≡ 45) × NoNode m)) (ends_with m 12 w ((45 ≡ 5) × (m counter_limit ≤ m counter)) ∷ []) (no_node m) _ _
             (says_as (λ n. (refl, n)) (λ x. x.1) (says_and (says_≡ _ _) (says_≤ _ _))) refl (λ f. inr (λ x. eqb-false 45 5 refl x.0, runs_on));
         abandoned = nothing;
       }
@@ -449,13 +449,13 @@ module _ (m : Cells) (w : ℕ) where
       }
 
   -- the table of phases, the lines and the rows, in step
-  abbrev In_step : List PhaseRow → List Line → List Row → Type 0
-  In_step [] ls us = Unit {0}
-  In_step (r ∷ rs) [] us = ⊥
-  In_step (r ∷ rs) (l ∷ ls) [] = ⊥
-  In_step (r ∷ rs) (l ∷ ls) (u ∷ us) = Agrees r l u × In_step rs ls us
+  abbrev InStep : List PhaseRow → List Line → List Row → Type 0
+  InStep [] ls us = Unit {0}
+  InStep (r ∷ rs) [] us = ⊥
+  InStep (r ∷ rs) (l ∷ ls) [] = ⊥
+  InStep (r ∷ rs) (l ∷ ls) (u ∷ us) = Agrees r l u × InStep rs ls us
 
-  at : (rs : List PhaseRow) (ls : List Line) (us : List Row) → In_step rs ls us → (p : ℕ) → p < length rs → (r : PhaseRow) (l : Line) (u : Row)
+  at : (rs : List PhaseRow) (ls : List Line) (us : List Row) → InStep rs ls us → (p : ℕ) → p < length rs → (r : PhaseRow) (l : Line) (u : Row)
       → Agrees (get_or rs p r) (get_or ls p l) (get_or us p u)
   at [] ls us h p b r l u = absurd (omega arith)
   at (x ∷ rs) [] us h p b r l u = absurd h
@@ -463,7 +463,7 @@ module _ (m : Cells) (w : ℕ) where
   at (x ∷ rs) (y ∷ ls) (z ∷ us) h zero b r l u = h.0
   at (x ∷ rs) (y ∷ ls) (z ∷ us) h (suc p) b r l u = at rs ls us h.1 p (omega arith) r l u
 
-  in_step : In_step (tail table) (tail lines) (tail (rows m w))
+  in_step : InStep (tail table) (tail lines) (tail (rows m w))
   unfolding table lines rows arguments_damaged kept_damaged
   in_step =
       -- vRead
