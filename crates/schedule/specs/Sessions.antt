@@ -1,5 +1,5 @@
 -- Turns one after the other: after each of them the words, what is kept and what was handed to write are those of the whole text that was read.
-use Rattle.std.specs.Prelude.{◌≡◌, refl, Bool, true, false, ℤ, pos, negsuc, take}
+use Rattle.std.specs.Prelude.{◌≡◌, refl, Bool, true, false, ℤ, pos, take}
 use Rattle.std.proofs.Math.Path.{ap, sym, subst}
 use Rattle.std.proofs.Common.{◌∙◌, true≢false, length-append, take_at}
 use Prim.Native.Nat.{ℕ, suc, ◌+◌, ◌-◌, ◌<◌, ◌≤◌}

@@ -1,9 +1,7 @@
 -- What one turn of the program does, up to the operating system's reading and writing.
-use Rattle.std.specs.Prelude.{◌≡◌, refl, ℕ, zero, suc, ◌+◌, ◌*◌, ◌-◌, ◌<◌, ◌≤◌, true, false, List, ◌++◌, length, take, drop, ℤ, pos, negsuc}
+use Rattle.std.specs.Prelude.{◌≡◌, refl, ℕ, zero, suc, ◌+◌, ◌*◌, ◌-◌, ◌<◌, ◌≤◌, min, true, false, List, ◌++◌, length, take, drop, ℤ, pos, negsuc}
 use Rattle.std.proofs.Common.{sym, ap, subst, ◌∙◌, true≢false, arith, ltb-true, length-append, length-take, length-drop, take_at, drop_at, length-take-le}
 use Rattle.std.specs.Int.Signed.{lt_z}
-use Rattle.libc.specs.Io.{Moved}
-use Rattle.io.specs.Counts.{clamp_len}
 use Rattle.frames.specs.AnswerLines.{answer_length}
 use Rattle.text.specs.declared.Kept.{Kept}
 use Rattle.text.specs.Feeding.{Piece, Last}
@@ -13,6 +11,16 @@ use Rattle.schedule.specs.Exchanges.{AsMany, Exchange}
 -- How many bytes the output has: an answer line for each byte of the text's buffer, which may be a line feed.
 abbrev pub out_length : ℕ
 out_length = 16384 * answer_length
+
+-- What a read may answer that is lent so many bytes: how many it put there, or -1.
+abbrev pub Moved : ℕ → ℤ → Type 0
+Moved most (pos n) = n ≤ most
+Moved most (negsuc n) = n ≡ 0
+
+-- Such an answer brought into what a buffer holds: none where the read failed.
+abbrev pub clamp_len : ℤ → ℕ → ℕ
+clamp_len (pos n) most = min n most
+clamp_len (negsuc n) most = 0
 
 -- The bytes that a read which answered `got` has put at the front of z.
 abbrev pub read_into : List ℕ → ℤ → List ℕ

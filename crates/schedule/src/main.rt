@@ -1,11 +1,14 @@
 // The schedule program: frames from standard input, one answer line for each on standard output, in constant memory.
+#![tactic(auto)]
+
 ghost use Rattle.std.specs.Prelude.{◌≡◌, ◌+◌, ◌<◌, ◌≤◌, ◌++◌, length, take, drop};
 ghost use Rattle.text.specs.Feeding.{Piece, Last};
 ghost use Rattle.text.specs.Replies.{lent};
-ghost use Rattle.schedule.specs.Turns.{out_length, read_into, After, Turned};
+ghost use Rattle.schedule.specs.Turns.{out_length, Moved, clamp_len, read_into, After, Turned};
 ghost use Rattle.schedule.specs.Exchanges.{Ran};
 
-use libc::{STDERR_FILENO, STDIN_FILENO, STDOUT_FILENO};
+use std::env::{Env, FillError};
+use std::io::{Read, Write};
 
 // An answer line for each byte read.
 const OUT_LENGTH: usize = 16384 * frames::ANSWER_LENGTH;
@@ -18,37 +21,87 @@ struct Turn {
     goes_on: bool,
 }
 
+// One read, and what it answers as one number: how many bytes it put at the front of the buffer, or -1 where it failed.
+fn read_once<R: Read>(input: &mut R, into: &mut [u8]) -> isize
+    requires { length into.old ≤ 16384 }
+    ensures { Moved (length into.old) result }
+{
+    match input.read(into) {
+        Ok(count) => count as isize,
+        Err(_) => -1,
+    }
+}
+
+// How many of the buffer's bytes a read that answered `got` has put there.
+fn read_count(got: isize, bytes: &[u8]) -> usize
+    ensures { result ≡ clamp_len got (length bytes.now) }
+{
+    if got <= 0 {
+        return 0;
+    }
+    let count = got as usize;
+    if count < bytes.len() {
+        count
+    } else {
+        bytes.len()
+    }
+}
+
+// All of the bytes are written, or a write fails or takes none of those that it is handed.
+fn write_all<W: Write>(output: &mut W, bytes: &[u8]) -> bool {
+    let mut done = 0;
+    while done < bytes.len() {
+        match output.write(&bytes[done..]) {
+            Ok(0) => return false,
+            Ok(count) => done += count,
+            Err(_) => return false,
+        }
+    }
+    true
+}
+
 // All of the answers are written, or the program says that they are not.
-fn write_answers(answers: &[u8]) -> bool {
-    if io::write_all(STDOUT_FILENO, answers) {
+fn write_answers<W: Write, E: Write>(output: &mut W, errors: &mut E, answers: &[u8]) -> bool {
+    if write_all(output, answers) {
         return true;
     }
-    io::write_all(
-        STDERR_FILENO,
-        b"schedule: standard output cannot be written\n",
-    );
+    write_all(errors, b"schedule: standard output cannot be written\n");
     false
 }
 
 // At the end of the input a last line may lack its line feed.
-fn finish(bytes: &[u8], words: &mut [u32], out: &mut [u8]) -> usize
+fn finish<W: Write, E: Write>(
+    output: &mut W,
+    errors: &mut E,
+    bytes: &[u8],
+    words: &mut [u32],
+    out: &mut [u8],
+) -> usize
     requires { length out.old ≡ out_length }
     ensures { Last bytes.now words.old out.old result words.new out.new }
 {
     let written = text::answer_last(bytes, words, out);
-    write_answers(&out[..written]);
+    write_answers(output, errors, &out[..written]);
     written
 }
 
 // The whole lines of what is held and of what was read are answered, and the answers written.
-fn answer(bytes: &mut [u8], held: usize, count: usize, words: &mut [u32], out: &mut [u8]) -> Turn
+fn answer<W: Write, E: Write>(
+    output: &mut W,
+    errors: &mut E,
+    bytes: &mut [u8],
+    held: usize,
+    count: usize,
+    words: &mut [u32],
+    out: &mut [u8],
+) -> Turn
     requires { (length bytes.old ≡ 16384) × (length out.old ≡ out_length) × (held + count ≤ 16384) }
     ensures { Piece (take held bytes.old ++ take count (drop held bytes.old)) words.old out.old
         (record { held = result.held; written = result.written }) bytes.new words.new out.new }
 {
     let kept = text::answer_piece(bytes, held + count, words, out);
     let written = kept.written;
-    let goes_on = write_answers(&out[..written]);
+    let goes_on = write_answers(output, errors, &out[..written]);
     Turn {
         held: kept.held,
         written,
@@ -58,51 +111,74 @@ fn answer(bytes: &mut [u8], held: usize, count: usize, words: &mut [u32], out: &
 
 // What a read comes to that answered `got`: the whole lines are answered, at the end of the input (0) the last line. Where it failed nothing more is
 // answered, since what is held may be a part of a line.
-fn after_read(got: isize, bytes: &mut [u8], held: usize, words: &mut [u32], out: &mut [u8]) -> Turn
+fn after_read<W: Write, E: Write>(
+    got: isize,
+    output: &mut W,
+    errors: &mut E,
+    bytes: &mut [u8],
+    held: usize,
+    words: &mut [u32],
+    out: &mut [u8],
+) -> Turn
     requires { (length bytes.old ≡ 16384) × (length out.old ≡ out_length) × (held ≤ 65) }
     ensures { (result.held ≤ 65)
         × After got (take held bytes.old) (read_into (drop held bytes.old) got) words.old out.old
         result bytes.new words.new out.new }
 {
     if got < 0 {
-        io::write_all(STDERR_FILENO, b"schedule: standard input cannot be read\n");
+        write_all(errors, b"schedule: standard input cannot be read\n");
         return Turn {
             held: 0,
             written: 0,
             goes_on: false,
         };
     }
-    let count = io::count(got, &bytes[held..]);
+    let count = read_count(got, &bytes[held..]);
     if count == 0 {
-        let written = finish(&bytes[..held], words, out);
+        let written = finish(output, errors, &bytes[..held], words, out);
         return Turn {
             held: 0,
             written,
             goes_on: false,
         };
     }
-    answer(bytes, held, count, words, out)
+    answer(output, errors, bytes, held, count, words, out)
 }
 
 // One read after what is held.
-fn take_turn(bytes: &mut [u8], held: usize, words: &mut [u32], out: &mut [u8]) -> Turn
+fn take_turn<R: Read, W: Write, E: Write>(
+    input: &mut R,
+    output: &mut W,
+    errors: &mut E,
+    bytes: &mut [u8],
+    held: usize,
+    words: &mut [u32],
+    out: &mut [u8],
+) -> Turn
     requires { (length bytes.old ≡ 16384) × (length out.old ≡ out_length) × (held ≤ 65) }
     ensures { (result.held ≤ 65)
         × Turned (take held bytes.old) words.old out.old result bytes.new words.new out.new }
 {
-    let got = libc::read(STDIN_FILENO, &mut bytes[held..]);
-    after_read(got, bytes, held, words, out)
+    let got = read_once(input, &mut bytes[held..]);
+    after_read(got, output, errors, bytes, held, words, out)
 }
 
 // Turns until the input ends or cannot be read, or the output cannot be written. It could go on, and answers true, only where all turns are spent.
-fn run(bytes: &mut [u8], words: &mut [u32], out: &mut [u8]) -> bool
+fn run<R: Read, W: Write, E: Write>(
+    input: &mut R,
+    output: &mut W,
+    errors: &mut E,
+    bytes: &mut [u8],
+    words: &mut [u32],
+    out: &mut [u8],
+) -> bool
     requires { (length bytes.old ≡ 16384) × (length out.old ≡ out_length) }
     ensures { Ran words.old result words.new }
 {
     let mut held = 0;
     let mut turns = u64::MAX;
     while turns > 0 {
-        let done = take_turn(bytes, held, words, out);
+        let done = take_turn(input, output, errors, bytes, held, words, out);
         if !done.goes_on {
             return false;
         }
@@ -112,18 +188,21 @@ fn run(bytes: &mut [u8], words: &mut [u32], out: &mut [u8]) -> bool
     true
 }
 
-fn complain() {
-    io::write_all(STDERR_FILENO, b"usage: schedule < FRAMES > ANSWERS\n");
-    io::write_all(
-        STDERR_FILENO,
+fn complain<E: Write>(errors: &mut E) {
+    write_all(errors, b"usage: schedule < FRAMES > ANSWERS\n");
+    write_all(
+        errors,
         b"schedule takes no argument: it reads frames from standard input, one a line, and prints an answer for each; see schedule(1)\n",
     );
 }
 
 // Runs where the program's name stands alone in its command. Given an argument it says the usage and leaves the buffers as they are: nothing was read
 // into them, and nothing answered.
-fn run_or_complain(
+fn run_or_complain<R: Read, W: Write, E: Write>(
     name_and_arguments: usize,
+    input: &mut R,
+    output: &mut W,
+    errors: &mut E,
     bytes: &mut [u8],
     words: &mut [u32],
     out: &mut [u8],
@@ -134,10 +213,10 @@ fn run_or_complain(
         × (out.new ≡ out.old)) }
 {
     if 1 < name_and_arguments {
-        complain();
+        complain(errors);
         return false;
     }
-    run(bytes, words, out)
+    run(input, output, errors, bytes, words, out)
 }
 
 fn text_buffer() -> [u8; 16384]
@@ -158,11 +237,29 @@ fn lent_words() -> [u32; 16384]
     [0; 16384]
 }
 
+// How many words the command has: the program's name and its arguments.
+fn count_words<C: Env>(command: &C) -> usize {
+    for at in 0..usize::MAX {
+        if let Err(FillError::NotPresent) = command.arg(at, &mut []) {
+            return at;
+        }
+    }
+    usize::MAX
+}
+
 // A contract could speak of none of main's locals. What is proved: the words that it lends are `lent` (`lent_words`), what a run from them comes to,
-// turn by turn (`run`), and that an argument keeps it from running (`run_or_complain`). `program-prints` (specs/Sessions.antt) puts the first two together.
-fn main() {
+// turn by turn (`run`), and that an argument keeps it from running (`run_or_complain`). `program_prints` (specs/Sessions.antt) puts the first two together.
+fn main(rt: HostRuntime) {
     let mut bytes = text_buffer();
     let mut words = lent_words();
     let mut out = out_buffer();
-    run_or_complain(os::arg_count(), &mut bytes, &mut words, &mut out);
+    run_or_complain(
+        count_words(&rt),
+        &mut rt.stdin(),
+        &mut rt.stdout(),
+        &mut rt.stderr(),
+        &mut bytes,
+        &mut words,
+        &mut out,
+    );
 }
