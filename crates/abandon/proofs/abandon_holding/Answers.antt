@@ -15,6 +15,3 @@ returns c = λ a. let x = c.args in let ws = x.words.now in
       answers = c.clear.ensures.0;
       leaves = then_cleared a x.nodes_at ws (returning (cells_at a x.nodes_at ws) x.w) x.w (c.give_back.ensures a) c.clear.ensures.1;
     })
-
--- ?? same_length
--- ?? same-length-2

@@ -22,5 +22,3 @@ unfolding line_43
 returns c = let x = c.args in let ws = x.words.now in
     let e = node_word ws x.nodes_at (get_or ws (16 + 16 * x.w + 8) 0) 0 c.word-value.ensures in
     rw (← e) (met_else _ (lt-leb _ _ c.if-words-value.false) (met_if _ (eq-eqb _ _ c.if-value-words.false) (met_else _ (ne_eqb _ _ c.if-words-at.false) (record { answers = c.go_on.ensures.0; leaves = c.go_on.ensures.1 }))))
-
--- ?? cast-n

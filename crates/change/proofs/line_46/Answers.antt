@@ -10,7 +10,3 @@ returns-then-words-head_at c = met_if _ (eq-eqb _ _ c.if-words-head_at.true) (re
 pub returns : goal.returns
 unfolding line_46
 returns c = met_else _ (ne_eqb _ _ c.if-words-head_at.false) (record { answers = c.go_on-2.ensures.0; leaves = c.go_on-2.ensures.1 })
-
--- ?? cast-i
--- ?? same_length
--- ?? same-length-2

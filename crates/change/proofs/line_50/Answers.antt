@@ -21,6 +21,3 @@ returns c = let x = c.args in let ws = x.words.now in
           c.go_on.ensures.1
           ∙ ap (λ (l : List ℕ). moved_on l x.w (get_or ws (16 + 16 * x.w + 0) 0 + 1) (get_or ws (16 + 16 * x.w + 1) 0 + 1)) (c.give_back.ensures x.items_at);
     })
-
--- ?? same_length
--- ?? same-length-2

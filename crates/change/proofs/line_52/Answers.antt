@@ -4,5 +4,3 @@ use Rattle.change.proofs.line_52.Goals as goal
 pub returns : goal.returns
 unfolding line_52
 returns c = record { answers = c.finish.ensures.0; leaves = c.finish.ensures.1 }
-
--- ?? same_length

@@ -17,5 +17,3 @@ unfolding line_20
 returns c = let x = c.args in let ws = x.words.now in
     let e = node_word ws x.nodes_at (get_or ws (16 + 16 * x.w + 8) 0) 2 c.word-stamp.ensures in
     rw (← e) (met_else _ (sym c.bad_stamp.ensures ∙ c.if-bad_stamp.false) (rw (ne_eqb _ _ c.if-stamp.false) (record { answers = c.go_on-2.ensures.0; leaves = c.go_on-2.ensures.1 })))
-
--- ?? cast-n

@@ -32,5 +32,3 @@ returns c =
     met_else _ (rw e at (sym c.bad_stamp.ensures ∙ c.if-bad_stamp.false))
     (rw (← stamp_undecided a b ws n s.ensures.0)
     (goes-on-alike a b w (get_or ws (16 + 16 * w + 0) 0 + 1) ws (stamp n ≔ v) s.result g.0 (rw f at g.1)))
-
--- ?? cast-n

@@ -11,5 +11,3 @@ item_is_damaged-requires c = let x = c.args in let h = c.requires in
 
 pub returns : goal.returns
 returns c = rw (ne_eqb _ _ c.if-row-eq-TAKE_SNAPSHOT.false, ne_eqb _ _ c.if-row-eq0.false) (c.item_is_damaged.ensures c.args.nodes_at)
-
--- ?? cast-i

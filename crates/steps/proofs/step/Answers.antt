@@ -15,6 +15,3 @@ step_sound-requires c = header_sound _ (sym c.header_is_damaged.ensures ∙ c.if
 pub returns : goal.returns
 unfolding outcome
 returns c = done (met_else _ (sym c.header_is_damaged.ensures ∙ c.if-header_is_damaged.false) c.step_sound.ensures)
-
--- ?? same_length
--- ?? same-length-2

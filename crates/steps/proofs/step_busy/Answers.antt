@@ -12,8 +12,3 @@ run_row-requires c = let x = c.args in let h = c.requires in
 pub returns : goal.returns
 returns c = let x = c.args in
     rw (line_tied (get_or x.words.now (16 + 16 * x.w + 0) 0), ← c.requires.2) (met_else _ (sym c.its_item_is_damaged.ensures ∙ c.if-its_item_is_damaged.false) c.run_row.ensures)
-
--- ?? cast-items-at
--- ?? cast-nodes-at
--- ?? same_length
--- ?? same-length-2

@@ -41,6 +41,3 @@ returns c = let x = c.args in let ws = x.words.now in let m = cells_of ws in let
     (in_order (items_offset ws) (nodes_offset ws) ws (worker_damaged m w) (step_damaged m w) (late (row_of (m (phase w))) m w) (eqb (m (phase w)) 0)
     (inside_item (row_of (m (phase w))) && item_damaged m (m (item w))) (stepped (line_of_phase (m (phase w))) m w)
     (late_damaged m w c.if-phase-gt-CLOSING_PHASE.false c.if-phase-eq0.false e) (ne_eqb _ _ c.if-phase-eq0.false) c.step_busy.ensures)
-
--- ?? same_length
--- ?? same-length-2

@@ -15,10 +15,6 @@ use native.Mathlib.Omega.{arith}
 use borrow.Author.Rules.{rules}
 use Rattle.take.proofs.line_45.Goals as goal
 
--- a node is left, and can be taken
-
--- the words once the node is taken are as many as before
-
 pub returns-then-none_left : goal.returns-then-none_left
 unfolding line_45
 returns-then-none_left c = let x = c.args in let m = cells_at x.items_at x.nodes_at x.words.now in
@@ -75,5 +71,3 @@ returns c =
       leaves = rw (append_assoc) (taken_then a b ws (taking m) (λ (n : ℕ). value n ≔ m (new x.w) ∷ older n ≔ (m (node x.w) + 1) ∷ stamp n ≔ 4294967295 ∷ new_node x.w ≔ n ∷ phase x.w ≔ (m (phase x.w) + 1) ∷ steps x.w ≔ (m (steps x.w) + 1) ∷ [])
           (c.take_node.ensures a) e (rw f at c.go_on.ensures.1));
     }))
-
--- ?? same-length-3

@@ -31,5 +31,3 @@ returns c = let x = c.args in let ws = x.words.now in let k = needed x.workers x
     let e = c.words_needed-needed.ensures in
     done_else _ (neither (any_of (sizes_outside x.workers x.items x.nodes x.projects x.counter)) (ltb (length ws) k) (sym c.sizes_beyond.ensures ∙ c.if-sizes_beyond.false) (le-ltb (length ws) k (rw e at c.if-words-needed.false)))
     (record { answers = refl; leaves = rw (c.clear.ensures, e) (sizes_written k (drop k ws) x.workers x.items x.nodes x.projects x.counter (omega arith)) })
-
--- ?? same_length

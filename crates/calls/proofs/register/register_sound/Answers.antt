@@ -39,9 +39,3 @@ returns c =
     let left : no_node (cells_of c.args.words.now) ≡ false = let ws = c.args.words.now in sym (c.none_left.ensures (items_offset ws) (nodes_offset ws)) ∙ c.if-none_left.false in
     let ws = c.args.words.now in
     met_else _ (lt-leb _ _ c.if-words-value.false) (met_else _ (lt-leb _ _ c.if-words.false) (met_else _ (left) (met_else _ (sym (c.first_is_damaged.ensures (items_offset ws)) ∙ c.if-first_is_damaged.false) c.register_taking.ensures)))
-
--- ?? same_length
--- ?? cast-nodes-at
--- ?? cast-nodes-at-2
--- ?? same-length-2
--- ?? same-length-3

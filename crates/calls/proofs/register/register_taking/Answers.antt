@@ -9,10 +9,6 @@ use Rattle.definitions.specs.Lines.{taking}
 use Rattle.endings.specs.Laws.{taken_then, taken_fits, length_written}
 use Rattle.calls.proofs.register.register_taking.Goals as goal
 
--- the node taken is one of the N
-
--- the words are as many once the node is taken, and once it is made
-
 pub make-requires : goal.make-requires
 make-requires c =
     let fits : c.next_node-taken.result < get_or c.args.words.now 2 0 = let ws = c.args.words.now in
@@ -31,7 +27,3 @@ returns c = let x = c.args in let ws = x.words.now in let a = items_offset ws in
       leaves = taken_then a b ws (taking m) (λ (n : ℕ). value n ≔ x.value ∷ older n ≔ 0 ∷ stamp n ≔ m counter ∷ head (m items) ≔ n ∷ birth (m items) ≔ m counter ∷ size (m items) ≔ x.size ∷ items ≔ (m items + 1) ∷ [])
           (c.take_node.ensures a) (c.next_node-taken.ensures a b) (rw f);
     }
-
--- ?? cast-items-at
--- ?? cast-nodes-at
--- ?? same_length

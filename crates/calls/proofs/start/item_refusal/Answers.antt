@@ -12,5 +12,3 @@ returns-then-item_is_damaged c = let ws = c.args.words.now in
 pub returns : goal.returns
 returns c = let ws = c.args.words.now in
     (later _ (lt-leb _ _ c.if-words-item.false) (later _ (sym (c.item_is_damaged.ensures (nodes_offset ws)) ∙ c.if-item_is_damaged.false) refl), omega arith)
-
--- ?? cast-items-at

@@ -60,10 +60,3 @@ returns c = let x = c.args in let ws = x.words.now in let m = cells_of ws in let
     done {ws = ws} (met_past (worker_refusals ws x.worker) (sound_item m x.item ++ handles m x.item x.handle) o refl (free c.is_held.ensures c.if-is_held.false) refl
     (met_past (sound_item m x.item) (handles m x.item x.handle) o c.item_refusal-item_number.ensures.0 c.if-item_number-ne0.false refl
     (met_else _ (lt-leb _ _ c.if-words-handle.false) (met_else _ (le-ltb _ _ c.if-handle-words.false) (record { answers = c.accept.ensures; leaves = c.write_record.ensures })))))
-
--- ?? same_length
--- ?? same-length-2
--- ?? same-length-3
--- ?? cast-items-at
--- ?? same-length-4
--- ?? same-length-5

@@ -22,6 +22,3 @@ unfolding outcome starting_take_snapshot
 returns c = let x = c.args in let ws = x.words.now in
     done {ws = ws} (met_past (worker_refusals ws x.worker) [] (accepts 0 (record_of x.worker 23 0 0 0 0 0 0)) refl (free c.is_held.ensures c.if-is_held.false) refl
     (record { answers = c.accept.ensures; leaves = c.write_record.ensures }))
-
--- ?? same_length
--- ?? same-length-2

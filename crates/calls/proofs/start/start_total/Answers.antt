@@ -63,9 +63,3 @@ unfolding outcome starting_total asked then
 returns c = let x = c.args in let ws = x.words.now in let m = cells_of ws in
     done {ws = ws} (met_past (worker_refusals ws x.worker) (asked m x.project x.handle) (then m x.worker x.project x.handle) refl (free c.is_held.ensures c.if-is_held.false) refl
     (met_else _ (lt-leb _ _ c.if-words-project.false) (met_else _ (lt-leb _ _ c.if-words-handle.false) (rw (ne_eqb _ _ c.if-items-eq0.false) (record { answers = c.accept-2.ensures; leaves = c.write_record-2.ensures })))))
-
--- ?? same_length
--- ?? same-length-2
--- ?? same-length-3
--- ?? same-length-4
--- ?? same-length-5

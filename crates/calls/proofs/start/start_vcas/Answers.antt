@@ -49,8 +49,3 @@ returns c = let x = c.args in let ws = x.words.now in let m = cells_of ws in let
     done {ws = ws} (met_past (worker_refusals ws x.worker) (sound_item m x.item ++ values m x.old x.new) o refl (free c.is_held.ensures c.if-is_held.false) refl
     (met_past (sound_item m x.item) (values m x.old x.new) o c.item_refusal-item_number.ensures.0 c.if-item_number-ne0.false refl
     (met_else _ c.if-words-old.false (record { answers = c.accept.ensures; leaves = c.write_record.ensures }))))
-
--- ?? same_length
--- ?? same-length-2
--- ?? same-length-3
--- ?? same-length-4

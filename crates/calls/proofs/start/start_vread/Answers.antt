@@ -32,7 +32,3 @@ returns c = let x = c.args in let ws = x.words.now in let o = accepts 0 (record_
     done {ws = ws} (met_past (worker_refusals ws x.worker) (sound_item (cells_of ws) x.item) o refl (free c.is_held.ensures c.if-is_held.false) refl
     (met_past (sound_item (cells_of ws) x.item) [] o c.item_refusal-item_number.ensures.0 c.if-item_number-ne0.false refl
     (record { answers = c.accept.ensures; leaves = c.write_record.ensures })))
-
--- ?? same_length
--- ?? same-length-2
--- ?? same-length-3

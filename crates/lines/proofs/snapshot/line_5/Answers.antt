@@ -10,6 +10,3 @@ returns-then-words c = met_if _ (le-leb _ _ c.if-words.true) (record { answers =
 pub returns : goal.returns
 unfolding line_5
 returns c = met_else _ (lt-leb _ _ c.if-words.false) (record { answers = c.go_on.ensures.0; leaves = c.go_on.ensures.1 })
-
--- ?? same_length
--- ?? same-length-2

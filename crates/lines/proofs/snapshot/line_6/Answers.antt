@@ -10,6 +10,3 @@ returns-then-words-seen c = met_if _ (eq-eqb _ _ c.if-words-seen.true) (record {
 pub returns : goal.returns
 unfolding line_6
 returns c = met_else _ (ne_eqb _ _ c.if-words-seen.false) (record { answers = c.finish-2.ensures.0; leaves = c.finish-2.ensures.1 })
-
--- ?? same_length
--- ?? same-length-2

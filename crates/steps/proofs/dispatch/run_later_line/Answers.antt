@@ -77,17 +77,3 @@ returns-in-52 c = let x = c.args in let ws = x.words.now in let m = cells_at x.i
 pub returns-in_default : goal.returns-in_default
 returns-in_default c = let x = c.args in let ws = x.words.now in let m = cells_at x.items_at x.nodes_at ws in
     met_else _ (rest_kept x.row m x.w c.requires.2 (search rules)) (at_rest x.items_at x.nodes_at x.w ws x.row.line (search rules) c.closing_step.ensures)
-
--- ?? same_length
--- ?? same-length-2
--- ?? same-length-3
--- ?? same-length-4
--- ?? same-length-5
--- ?? same-length-6
--- ?? same-length-7
--- ?? same-length-8
--- ?? same-length-9
--- ?? same-length-10
--- ?? same-length-11
--- ?? same-length-12
--- ?? same-length-13

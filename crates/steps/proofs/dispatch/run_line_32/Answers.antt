@@ -10,6 +10,3 @@ total_32-requires c = let x = c.args in let h = c.requires in
 pub fetch_head-requires : goal.fetch_head-requires
 fetch_head-requires c = let x = c.args in let h = c.requires in
     (h.0.ready, item_there x.row (cells_at x.items_at x.nodes_at x.words.now) x.w h.0.arguments h.1 (λ q. let e = h.2 in omega (arith, q, e)))
-
--- ?? same_length
--- ?? same-length-2

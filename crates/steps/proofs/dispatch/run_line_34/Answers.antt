@@ -11,5 +11,3 @@ line_34-requires c = let x = c.args in let h = c.requires in let m = cells_at x.
   node_kept x.row m x.w 3 h.1 (eq-eqb _ _ h.3),
   sum_small x.row m x.w h.0.arguments,
 )
-
--- ?? same_length

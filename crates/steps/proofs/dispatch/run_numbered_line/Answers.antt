@@ -79,17 +79,3 @@ pub returns-in-51 : goal.returns-in-51
 unfolding kept_at
 returns-in-51 c = let x = c.args in let ws = x.words.now in let m = cells_at x.items_at x.nodes_at ws in
     met_else _ (nothing_kept x.row m x.w 51 c.in-51.is refl) (at_number x.items_at x.nodes_at x.w x.row.operation ws c.in-51.is c.fetch_head-in-51.ensures)
-
--- ?? same_length
--- ?? same-length-2
--- ?? same-length-3
--- ?? same-length-4
--- ?? same-length-5
--- ?? same-length-6
--- ?? same-length-7
--- ?? same-length-8
--- ?? same-length-9
--- ?? same-length-10
--- ?? same-length-11
--- ?? same-length-12
--- ?? same-length-13

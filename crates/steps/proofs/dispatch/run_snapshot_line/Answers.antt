@@ -23,7 +23,3 @@ line_6-requires c = let x = c.args in let ws = x.words.now in let m = cells_at x
 pub returns : goal.returns
 returns c = let x = c.args in let ws = x.words.now in let m = cells_at x.items_at x.nodes_at ws in let e = c.requires.1 c.if-row-eq5.false in
     met_else _ (kept_told x.row m x.w 6 e (c.kept_at_line_is_damaged.ensures x.items_at x.nodes_at) c.if-kept_at_line_is_damaged.false) (rw (ne_eqb _ _ c.if-row-eq5.false) c.line_6.ensures)
-
--- ?? same_length
--- ?? same-length-2
--- ?? same-length-3

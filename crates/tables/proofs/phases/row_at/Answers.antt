@@ -31,5 +31,3 @@ all-packed (r âˆ· rs) = (256 * r.operation + r.line + cond r.may_answer 128 0) â
 pub returns : goal.returns
 unfolding table row_of
 returns c = entry (all-packed table) c.args.phase
-
--- ?? array-read-entry

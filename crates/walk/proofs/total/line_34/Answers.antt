@@ -44,5 +44,3 @@ returns c = let x = c.args in let ws = x.words.now in
     rw (ne_eqb x.operation 5 c.if-operation-eq-TOTAL.false)
     (met_else _ (sym (tested_is x.items_at x.nodes_at ws x.w) ∙ sym c.tested_is_damaged.ensures ∙ c.if-tested_is_damaged.false)
     (met_else _ (le-ltb _ _ (rw e at c.if-handle-stamp.false)) (rw (← v) (record { answers = c.finish.ensures.0; leaves = c.finish.ensures.1 }))))
-
--- ?? cast-n

@@ -10,6 +10,3 @@ returns-then-words-at c = met_if _ (lt-ltb _ _ c.if-words-at.true) (record { ans
 pub returns : goal.returns
 unfolding total_32
 returns c = met_else _ (le-ltb _ _ c.if-words-at.false) (record { answers = c.go_on.ensures.0; leaves = c.go_on.ensures.1 })
-
--- ?? same_length
--- ?? same-length-2
