@@ -1,15 +1,14 @@
 #!/usr/bin/env bash
 # usage: [SEEDS='0 1 2'] bash tools/soak_faults.sh [NAME..]: would soak notice? Puts each fault of tools/soak_faults into a copy of the crates and runs soak there
 # unproved (`rt try`, 200,000 rounds), once a seed. The answer at which the first difference came must be the one that the line 'first:' has for that seed; without a
-# fault ('unchanged') there must be none. The table of docs/SOAK.md is this. `rt try` shows the first 200 bytes of what a program printed: in the copy soak does
-# not show the calls that lead to a difference, so that its report comes first.
+# fault ('unchanged') there must be none. The table of docs/SOAK.md is this. `rt try` shows nothing of a program that prints more than a megabyte: in the copy soak
+# does not show the calls that lead to a difference.
 set -eu
 cd "$(dirname "$0")/.."
 
 # first_difference FOLDER SEED: the answer at which the first difference came, or 0
 first_difference() {
-  printf '%s\n%s\n' "$2" 200000 > "$1/crates/soak/args"
-  (cd "$1" && RT_CUT=0 rt try soak > log 2>&1) || true
+  (cd "$1/crates/soak" && rt try -- "$2" 200000 > ../../log 2>&1) || true
   sed -n 's/.*first difference at answer (0: none): \([0-9]*\).*/\1/p' "$1/log" | head -n 1
 }
 
@@ -17,7 +16,9 @@ first_difference() {
 wrong=0
 for name in "$@"; do
   there=$(mktemp -d)
-  cp -R crates crates.txt "$there/"
+  # all but the folders out/, which hold what checks kept
+  for crate in crates/*; do mkdir -p "$there/$crate" && cp -R "$crate"/[!o]* "$there/$crate/"; done
+  cp crates.txt "$there/"
   rm -rf "$there/crates/soak/stdout" "$there"/crates/*/must-fail
   sed -i '/frames::show/d' "$there/crates/soak/src/both.rt"
   wanted="0 0 0"
