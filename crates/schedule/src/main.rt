@@ -8,7 +8,11 @@ ghost use Rattle.schedule.specs.Turns.{out_length, Moved, clamp_len, read_into, 
 ghost use Rattle.schedule.specs.Exchanges.{Ran};
 
 use std::env::{Env, FillError};
-use std::io::{Read, Write};
+use std::io::{Error, ErrorKind, Read, Write};
+use std::process::ExitCode;
+
+// The status that a shell reports of a filter that nobody reads any more, which SIGPIPE ends.
+const NOBODY_READS: u8 = 141;
 
 // An answer line for each byte read.
 const OUT_LENGTH: usize = 16384 * frames::ANSWER_LENGTH;
@@ -47,25 +51,48 @@ fn read_count(got: isize, bytes: &[u8]) -> usize
     }
 }
 
-// All of the bytes are written, or a write fails or takes none of those that it is handed.
-fn write_all<W: Write>(output: &mut W, bytes: &[u8]) -> bool {
+// Whether nobody reads any more what is written.
+fn is_unread(error: Error) -> bool {
+    matches!(error.kind(), ErrorKind::BrokenPipe)
+}
+
+// All of the bytes are written, or a write fails or takes none of those that it is handed. Where nobody reads them, the status says so.
+fn write_all<W: Write>(output: &mut W, status: &mut u8, bytes: &[u8]) -> bool {
     let mut done = 0;
     while done < bytes.len() {
         match output.write(&bytes[done..]) {
             Ok(0) => return false,
             Ok(count) => done += count,
-            Err(_) => return false,
+            Err(error) => {
+                if is_unread(error) {
+                    *status = NOBODY_READS;
+                }
+                return false;
+            }
         }
     }
     true
 }
 
-// All of the answers are written, or the program says that they are not.
-fn write_answers<W: Write, E: Write>(output: &mut W, errors: &mut E, answers: &[u8]) -> bool {
-    if write_all(output, answers) {
+// Says a line on standard error. Where that cannot be written, nobody learns of it.
+fn say<E: Write>(errors: &mut E, line: &[u8]) {
+    let mut unread = 0;
+    write_all(errors, &mut unread, line);
+}
+
+// All of the answers are written, or the program says that they are not, but where nobody reads: then it ends as any filter does, and says nothing.
+fn write_answers<W: Write, E: Write>(
+    output: &mut W,
+    errors: &mut E,
+    status: &mut u8,
+    answers: &[u8],
+) -> bool {
+    if write_all(output, status, answers) {
         return true;
     }
-    write_all(errors, b"schedule: standard output cannot be written\n");
+    if *status != NOBODY_READS {
+        say(errors, b"schedule: standard output cannot be written\n");
+    }
     false
 }
 
@@ -73,6 +100,7 @@ fn write_answers<W: Write, E: Write>(output: &mut W, errors: &mut E, answers: &[
 fn finish<W: Write, E: Write>(
     output: &mut W,
     errors: &mut E,
+    status: &mut u8,
     bytes: &[u8],
     words: &mut [u32],
     out: &mut [u8],
@@ -81,7 +109,7 @@ fn finish<W: Write, E: Write>(
     ensures { Last bytes.now words.old out.old result words.new out.new }
 {
     let written = text::answer_last(bytes, words, out);
-    write_answers(output, errors, &out[..written]);
+    write_answers(output, errors, status, &out[..written]);
     written
 }
 
@@ -89,6 +117,7 @@ fn finish<W: Write, E: Write>(
 fn answer<W: Write, E: Write>(
     output: &mut W,
     errors: &mut E,
+    status: &mut u8,
     bytes: &mut [u8],
     held: usize,
     count: usize,
@@ -101,7 +130,7 @@ fn answer<W: Write, E: Write>(
 {
     let kept = text::answer_piece(bytes, held + count, words, out);
     let written = kept.written;
-    let goes_on = write_answers(output, errors, &out[..written]);
+    let goes_on = write_answers(output, errors, status, &out[..written]);
     Turn {
         held: kept.held,
         written,
@@ -115,6 +144,7 @@ fn after_read<W: Write, E: Write>(
     got: isize,
     output: &mut W,
     errors: &mut E,
+    status: &mut u8,
     bytes: &mut [u8],
     held: usize,
     words: &mut [u32],
@@ -126,7 +156,7 @@ fn after_read<W: Write, E: Write>(
         result bytes.new words.new out.new }
 {
     if got < 0 {
-        write_all(errors, b"schedule: standard input cannot be read\n");
+        say(errors, b"schedule: standard input cannot be read\n");
         return Turn {
             held: 0,
             written: 0,
@@ -135,14 +165,14 @@ fn after_read<W: Write, E: Write>(
     }
     let count = read_count(got, &bytes[held..]);
     if count == 0 {
-        let written = finish(output, errors, &bytes[..held], words, out);
+        let written = finish(output, errors, status, &bytes[..held], words, out);
         return Turn {
             held: 0,
             written,
             goes_on: false,
         };
     }
-    answer(output, errors, bytes, held, count, words, out)
+    answer(output, errors, status, bytes, held, count, words, out)
 }
 
 // One read after what is held.
@@ -150,6 +180,7 @@ fn take_turn<R: Read, W: Write, E: Write>(
     input: &mut R,
     output: &mut W,
     errors: &mut E,
+    status: &mut u8,
     bytes: &mut [u8],
     held: usize,
     words: &mut [u32],
@@ -160,7 +191,7 @@ fn take_turn<R: Read, W: Write, E: Write>(
         × Turned (take held bytes.old) words.old out.old result bytes.new words.new out.new }
 {
     let got = read_once(input, &mut bytes[held..]);
-    after_read(got, output, errors, bytes, held, words, out)
+    after_read(got, output, errors, status, bytes, held, words, out)
 }
 
 // Turns until the input ends or cannot be read, or the output cannot be written. It could go on, and answers true, only where all turns are spent.
@@ -168,6 +199,7 @@ fn run<R: Read, W: Write, E: Write>(
     input: &mut R,
     output: &mut W,
     errors: &mut E,
+    status: &mut u8,
     bytes: &mut [u8],
     words: &mut [u32],
     out: &mut [u8],
@@ -178,7 +210,7 @@ fn run<R: Read, W: Write, E: Write>(
     let mut held = 0;
     let mut turns = u64::MAX;
     while turns > 0 {
-        let done = take_turn(input, output, errors, bytes, held, words, out);
+        let done = take_turn(input, output, errors, status, bytes, held, words, out);
         if !done.goes_on {
             return false;
         }
@@ -189,8 +221,8 @@ fn run<R: Read, W: Write, E: Write>(
 }
 
 fn complain<E: Write>(errors: &mut E) {
-    write_all(errors, b"usage: schedule < FRAMES > ANSWERS\n");
-    write_all(
+    say(errors, b"usage: schedule < FRAMES > ANSWERS\n");
+    say(
         errors,
         b"schedule takes no argument: it reads frames from standard input, one a line, and prints an answer for each; see schedule(1)\n",
     );
@@ -203,6 +235,7 @@ fn run_or_complain<R: Read, W: Write, E: Write>(
     input: &mut R,
     output: &mut W,
     errors: &mut E,
+    status: &mut u8,
     bytes: &mut [u8],
     words: &mut [u32],
     out: &mut [u8],
@@ -216,7 +249,7 @@ fn run_or_complain<R: Read, W: Write, E: Write>(
         complain(errors);
         return false;
     }
-    run(input, output, errors, bytes, words, out)
+    run(input, output, errors, status, bytes, words, out)
 }
 
 fn text_buffer() -> [u8; 16384]
@@ -249,7 +282,8 @@ fn count_words<C: Env>(command: &C) -> usize {
 
 // A contract could speak of none of main's locals. What is proved: the words that it lends are `lent` (`lent_words`), what a run from them comes to,
 // turn by turn (`run`), and that an argument keeps it from running (`run_or_complain`). `program_prints` (specs/Sessions.antt) puts the first two together.
-fn main(rt: HostRuntime) {
+fn main(rt: HostRuntime) -> ExitCode {
+    let mut status = 0;
     let mut bytes = text_buffer();
     let mut words = lent_words();
     let mut out = out_buffer();
@@ -258,8 +292,10 @@ fn main(rt: HostRuntime) {
         &mut rt.stdin(),
         &mut rt.stdout(),
         &mut rt.stderr(),
+        &mut status,
         &mut bytes,
         &mut words,
         &mut out,
     );
+    ExitCode::from(status)
 }
