@@ -10,12 +10,12 @@ mkdir -p "$there/bin" "$there/crates" "$there/target/staticlib"
 touch "$there/crates.txt"
 touch "$there/target/staticlib/libcatalogue.a"   # newer than every source, so that nothing is to be proved
 stand_in() { printf '#!/bin/sh\n%s\n' "$2" > "$there/bin/$1"; chmod +x "$there/bin/$1"; }
-stand_in rt 'echo "1 passed, 0 failed"'
+stand_in rt 'echo "rt: ok; handles allowed: none"; echo "1 passed, 0 failed"'
 stand_in python3 :
 # shellcheck disable=SC2016
 stand_in uname 'echo "$MACHINE"'
 stand_in apt-get "echo \"\$*\" > '$there/installed'"
-for program in bash sh cat cut dirname find grep gcc head id mkdir readlink rm sleep tail tee timeout touch wc; do
+for program in bash sh cat cp cut dirname find grep gcc head id mkdir mktemp readlink rm sleep tail tee timeout touch wc; do
   if command -v "$program" > /dev/null; then ln -s "$(command -v "$program")" "$there/bin/$program"; fi
 done
 export PATH=$there/bin CC=no-such-compiler
