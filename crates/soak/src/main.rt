@@ -8,8 +8,14 @@ mod longest;
 mod play;
 
 use model::memory::MEMORY;
+use std::env::Env;
 use std::io;
+use std::io::ErrorKind;
+use std::process::ExitCode;
 use tally::notes::{NOTES, ROUNDS, SEED, STATE, put};
+
+// The status that a shell reports of a filter that nobody reads any more, which SIGPIPE ends.
+const NOBODY_READS: u8 = 141;
 
 const LENT: usize = 16384;
 
@@ -73,14 +79,26 @@ fn run(rt: &(impl Print + Eprint), seed: u64, rounds: u64) -> io::Result<()> {
     )
 }
 
-fn main(rt: HostRuntime) -> io::Result<()> {
-    if arguments::help_asked(&rt) {
-        return arguments::print_usage(&rt);
+// What the arguments ask for. An argument that is refused is answered with the usage on standard error.
+fn run_as_asked(rt: &(impl Env + Print + Eprint)) -> io::Result<()> {
+    if arguments::help_asked(rt) {
+        return arguments::print_usage(rt);
     }
-    let given = arguments::read(&rt);
+    let given = arguments::read(rt);
     if !given.good {
-        arguments::complain(&rt);
+        arguments::complain(rt);
         return Ok(());
     }
-    run(&rt, given.seed, given.rounds)
+    run(rt, given.seed, given.rounds)
+}
+
+// Where the report can't be written, a word on standard error says so, but where nobody reads it: then soak ends as any filter does, and says nothing.
+fn main(rt: HostRuntime) -> ExitCode {
+    if let Err(e) = run_as_asked(&rt) {
+        if matches!(e.kind(), ErrorKind::BrokenPipe) {
+            return ExitCode::from(NOBODY_READS);
+        }
+        let _ = eprintln!(rt; "soak: standard output: {e}");
+    }
+    ExitCode::SUCCESS
 }

@@ -150,7 +150,8 @@ fn coverage(rt: &impl Print, tally: &[u64]) -> io::Result<()> {
     )
 }
 
-fn print_report(rt: &impl Print, tally: &[u64]) -> io::Result<()> {
+// The report, to its end or to a write that fails.
+pub fn report(rt: &impl Print, tally: &[u64]) -> io::Result<()> {
     summary(rt, tally)?;
     coverage(rt, tally)?;
     longest(rt, tally)?;
@@ -159,15 +160,6 @@ fn print_report(rt: &impl Print, tally: &[u64]) -> io::Result<()> {
     rows(rt, tally, "abandoned at phase ", ABANDONED, 1, 36)?;
     moves(rt, tally)?;
     println!(rt; "end of the report")
-}
-
-// The report; where it can't be written to its end, a word on standard error says so, and the error is returned.
-pub fn report(rt: &(impl Print + Eprint), tally: &[u64]) -> io::Result<()> {
-    let printed = print_report(rt, tally);
-    if let Err(e) = &printed {
-        let _ = eprintln!(rt; "soak: standard output: {e}");
-    }
-    printed
 }
 
 // The line of a long run on standard error; one that can't be written is let go.
