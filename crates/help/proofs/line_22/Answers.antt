@@ -15,11 +15,11 @@ use Rattle.help.proofs.line_22.Goals as goal
 
 -- The line goes on at the same phase, whether it stored or not.
 
-goes-on-alike : (a b w p : ℕ) (ws : List ℕ) (x : Assignment) (t : Bool) {r : Answer} {after : List ℕ}
+goes_on_alike : (a b w p : ℕ) (ws : List ℕ) (x : Assignment) (t : Bool) {r : Answer} {after : List ℕ}
     → r ≡ running (cells_at a b ws (steps w) + 1) → after ≡ moved_on (written a b ws (cond t (x ∷ []) [])) w p (cells_at a b ws (steps w) + 1)
     → Met a b ws (cond t (goes_on (cells_at a b ws) w p (x ∷ [])) (goes_on (cells_at a b ws) w p [])) r after
-goes-on-alike a b w p ws x true e f = record { answers = e; leaves = f }
-goes-on-alike a b w p ws x false e f = record { answers = e; leaves = f }
+goes_on_alike a b w p ws x true e f = record { answers = e; leaves = f }
+goes_on_alike a b w p ws x false e f = record { answers = e; leaves = f }
 
 pub returns : goal.returns
 unfolding line_22
@@ -31,4 +31,4 @@ returns c =
     let f = stamp_written a b ws n v s.result s.ensures.1 in
     met_else _ (rw e at (sym c.bad_stamp.ensures ∙ c.if-bad_stamp.false))
     (rw (← stamp_undecided a b ws n s.ensures.0)
-    (goes-on-alike a b w (get_or ws (16 + 16 * w + 0) 0 + 1) ws (stamp n ≔ v) s.result g.0 (rw f at g.1)))
+    (goes_on_alike a b w (get_or ws (16 + 16 * w + 0) 0 + 1) ws (stamp n ≔ v) s.result g.0 (rw f at g.1)))

@@ -18,14 +18,14 @@ second : (x : Bool) → x ≡ (x || false) || false
 second true = refl
 second false = refl
 
-first-and-second : (x y : Bool) → (x || y) ≡ ((x || y) || false) || false
-first-and-second true y = refl
-first-and-second false y = second y
+first_and_second : (x y : Bool) → (x || y) ≡ ((x || y) || false) || false
+first_and_second true y = refl
+first_and_second false y = second y
 
-first-and-third : (x y : Bool) → (x || y) ≡ ((x || false) || y) || false
-first-and-third true y = refl
-first-and-third false true = refl
-first-and-third false false = refl
+first_and_third : (x y : Bool) → (x || y) ≡ ((x || false) || y) || false
+first_and_third true y = refl
+first_and_third false true = refl
+first_and_third false false = refl
 
 pub returns-in-20 : goal.returns-in-20
 unfolding kept_at
@@ -38,7 +38,7 @@ returns-in-21 c = λ a b. rw c.in-21.is (first _)
 pub returns-in-22 : goal.returns-in-22
 unfolding kept_at
 returns-in-22 c = λ a b. let x = c.args in let ws = x.words.now in
-    rw c.in-22.is (first-and-third (leb (get_or ws 7 0) (get_or ws (16 + 16 * x.w + 8) 0)) (ltb (get_or ws 5 0) (get_or ws (16 + 16 * x.w + 10) 0)))
+    rw c.in-22.is (first_and_third (leb (get_or ws 7 0) (get_or ws (16 + 16 * x.w + 8) 0)) (ltb (get_or ws 5 0) (get_or ws (16 + 16 * x.w + 10) 0)))
 
 pub returns-in-34 : goal.returns-in-34
 unfolding kept_at
@@ -59,7 +59,7 @@ returns-in-45 c = λ a b. rw c.in-45.is (first _)
 pub returns-in-46 : goal.returns-in-46
 unfolding kept_at
 returns-in-46 c = λ a b. let x = c.args in let ws = x.words.now in
-    rw c.in-46.is (first-and-second (leb (get_or ws 7 0) (get_or ws (16 + 16 * x.w + 8) 0)) (leb (get_or ws 7 0) (get_or ws (16 + 16 * x.w + 9) 0)))
+    rw c.in-46.is (first_and_second (leb (get_or ws 7 0) (get_or ws (16 + 16 * x.w + 8) 0)) (leb (get_or ws 7 0) (get_or ws (16 + 16 * x.w + 9) 0)))
 
 pub returns-in-50 : goal.returns-in-50
 unfolding kept_at

@@ -13,11 +13,11 @@ use Rattle.walk.proofs.total.line_34.Goals as goal
 
 -- What both operations do at line 34, whichever it is.
 
-by-either : (a b w : ℕ) (ws : List ℕ) {after : List ℕ} {r : Answer} (t : Bool)
+by_either : (a b w : ℕ) (ws : List ℕ) {after : List ℕ} {r : Answer} (t : Bool)
     → Steps (line tested_node total_34) a b w ws r after → Steps (line tested_node line_34) a b w ws r after
     → Steps (cond t (line tested_node total_34) (line tested_node line_34)) a b w ws r after
-by-either a b w ws true p q = p
-by-either a b w ws false p q = q
+by_either a b w ws true p q = p
+by_either a b w ws false p q = q
 
 pub returns-then-handle-stamp : goal.returns-then-handle-stamp
 unfolding line_34 total_34
@@ -25,7 +25,7 @@ returns-then-handle-stamp c = let x = c.args in let ws = x.words.now in
     let e = node_word ws x.nodes_at (get_or ws (16 + 16 * x.w + 8) 0) 2 c.word-stamp.ensures in
     let sound = sym (tested_is x.items_at x.nodes_at ws x.w) ∙ sym c.tested_is_damaged.ensures ∙ c.if-tested_is_damaged.false in
     let new = lt-ltb _ _ (rw e at c.if-handle-stamp.true) in
-    by-either x.items_at x.nodes_at x.w ws (eqb x.operation 5) (met_else _ sound (met_if _ new c.go_to_older.ensures)) (met_else _ sound (met_if _ new c.go_to_older.ensures))
+    by_either x.items_at x.nodes_at x.w ws (eqb x.operation 5) (met_else _ sound (met_if _ new c.go_to_older.ensures)) (met_else _ sound (met_if _ new c.go_to_older.ensures))
 
 pub returns-then-operation-eq-TOTAL : goal.returns-then-operation-eq-TOTAL
 unfolding line_34 total_34
