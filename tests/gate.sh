@@ -3,15 +3,9 @@
 # must-fail edit that is bad. Tried on a copy without crates or tests, with a stand-in for rt.
 set -eu
 cd "$(dirname "$0")/.."
-there=$(mktemp -d)
-trap 'rm -rf "$there"' EXIT
-cp -R .ci host "$there"
-mkdir -p "$there/bin" "$there/crates" "$there/target/staticlib"
-touch "$there/crates.txt"
-touch "$there/target/staticlib/libcatalogue.a"   # newer than every source, so that nothing is to be proved
+. tests/gate_copy.bash
 # shellcheck disable=SC2016
-printf '#!/bin/sh\necho "$*" >> "%s/called"\ncat "%s/says"\nexit "$STATUS"\n' "$there" "$there" > "$there/bin/rt"
-chmod +x "$there/bin/rt"
+stand_in rt "echo \"\$*\" >> '$there/called'; cat '$there/says'; exit \"\$STATUS\""
 fail() { echo "gate: $1"; exit 1; }
 gate() { # WHAT STATUS WANTED-STATUS WANTED-LAST-LINE: rt ci says what stands on standard input and ends with this status
   cat > "$there/says"

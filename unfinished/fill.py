@@ -1,9 +1,9 @@
 #!/usr/bin/env python3
-# usage: fill.py CRATE FUNC < spec ; spec lines: 'use ...' (added at top), 'pre ...' verbatim blocks until 'end' (inserted before first comment),
+# usage, at the top of the repository: fill.py CRATE FUNC < spec ; spec lines: 'use ...' (added at top), 'pre ...' verbatim blocks until 'end' (inserted before first comment),
 #  'NAME [unfolding A B] = TERM' replaces the hole of NAME (or its present answer). '@N' in a term becomes N times ' .before'.
 import re,sys
 crate,func=sys.argv[1:3]
-p=f'/work/main/crates/{crate}/proofs/{func}/Proof.antt'
+p=f'crates/{crate}/proofs/{func}/Proof.antt'
 t=open(p).read()
 def exp(s): return re.sub(r' ?@(\d+)',lambda m:' .before'*int(m.group(1)),s)
 spec=sys.stdin.read().split('\n'); uses=[]; pre=[]; i=0

@@ -1,10 +1,10 @@
 #!/usr/bin/env python3
-# holes.py GENDIR CRATE FUNC..: for each hole of the proof file the places with their number of .before, on one line
+# at the top of the repository: holes.py GENDIR CRATE FUNC..: for each hole of the proof file the places with their number of .before, on one line
 import re,sys
 gen,crate=sys.argv[1:3]
 for func in sys.argv[3:]:
     t=open(f'{gen}/Rattle·{crate}·proofs/proofs/{func}/Lts.antt').read()
-    pf=open(f'/work/main/crates/{crate}/proofs/{func}/Proof.antt').read()
+    pf=open(f'crates/{crate}/proofs/{func}/Proof.antt').read()
     holes=re.findall(r'^(\S+) c(?: κs)? = \?$',pf,re.M)
     recs={}; needs={}; cur=None; nn=None
     for l in t.split('\n'):

@@ -80,6 +80,14 @@ taken_fits a b ws h = go (eqb (get_or ws 8 0) 0) refl
     go true e = h.some (eqb-true _ _ e)
     go false e = let there = eqb-false (get_or ws 8 0) 0 e in omega (arith, there, h.given_back, h.used)
 
+-- the node that is taken is one of the N
+pub taken_below : (a b : ℕ) (ws : List ℕ) {t : ℕ} → CanTake b ws → t ≡ node_to_take (cells_at a b ws) → t < get_or ws 2 0
+taken_below a b ws h e = let below = taken_fits a b ws h in omega (arith, e, below)
+
 pub length_written : (a b : ℕ) (ws : List ℕ) (xs : List Assignment) → length (written a b ws xs) ≡ length ws
 length_written a b ws [] = refl
 length_written a b ws (x ∷ xs) = length_written a b (set ws (place a b x.to) x.what) xs ∙ length-set ws (place a b x.to) x.what
+
+-- the words after such a list are as many
+pub as_many_written : (a b : ℕ) (ws : List ℕ) (xs : List Assignment) {after : List ℕ} → after ≡ written a b ws xs → length after ≡ length ws
+as_many_written a b ws xs e = ap length e ∙ length_written a b ws xs

@@ -1,8 +1,6 @@
-use mathlib.Core.Path.{◌≡◌, ◌∙◌, sym}
-use mathlib.Core.Bool.{false}
+use mathlib.Core.Path.{◌∙◌, sym}
 use borrow.Author.Tests.{le-leb, lt-leb}
-use Rattle.definitions.specs.Cells.{cells_of, items_offset, nodes_offset}
-use Rattle.definitions.specs.Lines.{no_node}
+use Rattle.definitions.specs.Cells.{items_offset, nodes_offset}
 use Rattle.definitions.specs.Calls.{registering}
 use Rattle.endings.specs.Laws.{met_if, met_else, refuses}
 use Rattle.facts.specs.Facts.{can_take_at}
@@ -24,18 +22,15 @@ returns-then-none_left c = let ws = c.args.words.now in
 pub returns-then-first_is_damaged : goal.returns-then-first_is_damaged
 unfolding registering
 returns-then-first_is_damaged c =
-    let left : no_node (cells_of c.args.words.now) ≡ false = let ws = c.args.words.now in sym (c.none_left.ensures (items_offset ws) (nodes_offset ws)) ∙ c.if-none_left.false in
-    let ws = c.args.words.now in
-    met_else _ (lt-leb _ _ c.if-words-value.false) (met_else _ (lt-leb _ _ c.if-words.false) (met_else _ (left) (met_if _ (sym (c.first_is_damaged.ensures (items_offset ws)) ∙ c.if-first_is_damaged.true) (refuses 2 c.refuse-then-first_is_damaged.ensures))))
+    let ws = c.args.words.now in let left = sym (c.none_left.ensures (items_offset ws) (nodes_offset ws)) ∙ c.if-none_left.false in
+    met_else _ (lt-leb _ _ c.if-words-value.false) (met_else _ (lt-leb _ _ c.if-words.false) (met_else _ left (met_if _ (sym (c.first_is_damaged.ensures (items_offset ws)) ∙ c.if-first_is_damaged.true) (refuses 2 c.refuse-then-first_is_damaged.ensures))))
 
 pub register_taking-requires : goal.register_taking-requires
 register_taking-requires c =
-    let left : no_node (cells_of c.args.words.now) ≡ false = let ws = c.args.words.now in sym (c.none_left.ensures (items_offset ws) (nodes_offset ws)) ∙ c.if-none_left.false in
-    let ws = c.args.words.now in let h = c.requires in (h, c.if-words.false, can_take_at ws h (left))
+    let ws = c.args.words.now in let left = sym (c.none_left.ensures (items_offset ws) (nodes_offset ws)) ∙ c.if-none_left.false in let h = c.requires in (h, c.if-words.false, can_take_at ws h left)
 
 pub returns : goal.returns
 unfolding registering
 returns c =
-    let left : no_node (cells_of c.args.words.now) ≡ false = let ws = c.args.words.now in sym (c.none_left.ensures (items_offset ws) (nodes_offset ws)) ∙ c.if-none_left.false in
-    let ws = c.args.words.now in
-    met_else _ (lt-leb _ _ c.if-words-value.false) (met_else _ (lt-leb _ _ c.if-words.false) (met_else _ (left) (met_else _ (sym (c.first_is_damaged.ensures (items_offset ws)) ∙ c.if-first_is_damaged.false) c.register_taking.ensures)))
+    let ws = c.args.words.now in let left = sym (c.none_left.ensures (items_offset ws) (nodes_offset ws)) ∙ c.if-none_left.false in
+    met_else _ (lt-leb _ _ c.if-words-value.false) (met_else _ (lt-leb _ _ c.if-words.false) (met_else _ left (met_else _ (sym (c.first_is_damaged.ensures (items_offset ws)) ∙ c.if-first_is_damaged.false) c.register_taking.ensures)))

@@ -1,23 +1,19 @@
-use mathlib.Core.Path.{◌≡◌, refl, ◌∙◌, ap}
+use mathlib.Core.Path.{refl}
 use mathlib.Core.List.{[], ◌∷◌}
-use Prim.Native.Nat.{ℕ, ◌+◌, ◌*◌, ◌<◌}
-use lib.ListN.{length, get_or, length-take, length-drop}
+use Prim.Native.Nat.{ℕ, ◌+◌, ◌*◌}
+use lib.ListN.{get_or, length-take, length-drop}
 use native.Mathlib.Omega.{arith}
 use Rattle.tables.specs.Part.{write_part, ◌gets◌}
 use Rattle.definitions.specs.Cells.{node_words, ◌≔◌, cells_of, items_offset, nodes_offset, counter, items, value, older, stamp, head, birth, size}
 use Rattle.definitions.specs.Lines.{taking}
-use Rattle.endings.specs.Laws.{taken_then, taken_fits, length_written}
+use Rattle.endings.specs.Laws.{taken_then, taken_below, as_many_written}
 use Rattle.calls.proofs.register.register_taking.Goals as goal
 
 pub make-requires : goal.make-requires
-make-requires c =
-    let fits : c.next_node-taken.result < get_or c.args.words.now 2 0 = let ws = c.args.words.now in
-    let e = c.next_node-taken.ensures (items_offset ws) (nodes_offset ws) in
-    let h = taken_fits (items_offset ws) (nodes_offset ws) ws c.requires.2 in
-    omega (arith, e, h) in
-    let as_many : length c.take_node.new.words ≡ length c.args.words.now = let ws = c.args.words.now in
-    ap length (c.take_node.ensures (items_offset ws)) ∙ length_written (items_offset ws) (nodes_offset ws) ws (taking (cells_of ws)) in
-    let h = fits in let l = as_many in let r = c.requires.0 in simp (length-take, length-drop) (omega (arith, h, l, r))
+make-requires c = let ws = c.args.words.now in let a = items_offset ws in let b = nodes_offset ws in
+    let below = taken_below a b ws c.requires.2 (c.next_node-taken.ensures a b) in
+    let many = as_many_written a b ws (taking (cells_of ws)) (c.take_node.ensures a) in
+    simp (length-take, length-drop) (omega (arith, below, many, c.requires.0))
 
 pub returns : goal.returns
 returns c = let x = c.args in let ws = x.words.now in let a = items_offset ws in let b = nodes_offset ws in let m = cells_of ws in let t = c.next_node-taken.result in

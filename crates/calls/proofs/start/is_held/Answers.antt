@@ -1,18 +1,9 @@
-use mathlib.Core.Path.{◌≡◌, ◌∙◌, sym}
-use mathlib.Core.Bool.{false}
-use native.Mathlib.Omega.{arith}
-use Rattle.definitions.specs.Damage.{header_damaged}
-use Rattle.facts.specs.Facts.{Header, header_sound}
+use Rattle.std.proofs.Common.{sym, ◌∙◌, arith}
+use Rattle.facts.specs.Facts.{header_sound}
 use Rattle.calls.proofs.start.is_held.Goals as goal
 
 pub bounds-words-0 : goal.bounds-words-0
-bounds-words-0 c =
-    let sound : header_damaged c.args.words.now ≡ false = sym c.header_is_damaged.ensures ∙ c.if-header_is_damaged.false in
-    let header : Header c.args.words.now = header_sound _ (sound) in
-    omega (arith, header)
+bounds-words-0 c = let header = header_sound _ (sym c.header_is_damaged.ensures ∙ c.if-header_is_damaged.false) in omega (arith, header)
 
 pub bounds-words-w : goal.bounds-words-w
-bounds-words-w c =
-    let sound : header_damaged c.args.words.now ≡ false = sym c.header_is_damaged.ensures ∙ c.if-header_is_damaged.false in
-    let header : Header c.args.words.now = header_sound _ (sound) in
-    omega (arith, header, c.if-words-worker.false)
+bounds-words-w c = let header = header_sound _ (sym c.header_is_damaged.ensures ∙ c.if-header_is_damaged.false) in omega (arith, header, c.if-words-worker.false)
