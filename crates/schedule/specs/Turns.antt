@@ -1,7 +1,8 @@
 -- What one turn of the program does, up to the operating system's reading and writing.
-use Rattle.std.specs.Prelude.{◌≡◌, refl, ℕ, zero, suc, ◌+◌, ◌*◌, ◌-◌, ◌<◌, ◌≤◌, min, true, false, List, ◌++◌, length, take, drop, ℤ, pos, negsuc}
+use Rattle.std.specs.Prelude.{◌≡◌, refl, ℕ, zero, suc, ◌+◌, ◌*◌, ◌-◌, ◌<◌, ◌≤◌, min, true, false, List, Option, ◌++◌, length, take, drop, ℤ, pos, negsuc}
 use Rattle.std.proofs.Common.{sym, ap, subst, ◌∙◌, true≢false, arith, ltb-true, length-append, length-take, length-drop, take_at, drop_at, length-take-le}
 use Rattle.std.specs.Int.Signed.{lt_z}
+use Rattle.std.specs.Io.KnownBytes.{Consumes, IsAtEnd, Keeps}
 use Rattle.frames.specs.AnswerLines.{answer_length}
 use Rattle.text.specs.declared.Kept.{Kept}
 use Rattle.text.specs.Feeding.{Piece, Last}
@@ -16,6 +17,12 @@ out_length = 16384 * answer_length
 abbrev pub Moved : ℕ → ℤ → Type 0
 Moved most (pos n) = n ≤ most
 Moved most (negsuc n) = n ≡ 0
+
+-- What a read that answered so did to the bytes that its reader has left, where those are known: it took the bytes that stand at the front of the
+-- buffer now, none of them only at the end; and where it failed it took none.
+abbrev pub Took : Option (List ℕ) → Option (List ℕ) → ℤ → List ℕ → Type 0
+Took old new (pos n) buffer = Consumes old new (take n buffer) × (n ≡ 0 → 0 < length buffer → IsAtEnd new)
+Took old new (negsuc n) buffer = Keeps old new
 
 -- Such an answer brought into what a buffer holds: none where the read failed.
 abbrev pub clamp_len : ℤ → ℕ → ℕ

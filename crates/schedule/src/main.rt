@@ -1,10 +1,12 @@
 // The schedule program: frames from standard input, one answer line for each on standard output, in constant memory.
 #![tactic(auto)]
 
-ghost use Rattle.std.specs.Prelude.{◌≡◌, ◌+◌, ◌<◌, ◌≤◌, ◌++◌, length, take, drop};
+ghost use Rattle.std.specs.Prelude.{◌≡◌, ◌+◌, ◌<◌, ◌≤◌, ◌++◌, ◌↔◌, IsTrue, length, take, drop};
+ghost use Rattle.std.specs.Io.KnownBytes.{Appends};
+ghost use Rattle.std.specs.IoError.{error_kind};
 ghost use Rattle.text.specs.Feeding.{Piece, Last};
 ghost use Rattle.text.specs.Replies.{lent};
-ghost use Rattle.schedule.specs.Turns.{out_length, Moved, clamp_len, read_into, After, Turned};
+ghost use Rattle.schedule.specs.Turns.{out_length, Moved, Took, clamp_len, read_into, After, Turned};
 ghost use Rattle.schedule.specs.Exchanges.{Ran};
 
 use std::env::{Env, FillError};
@@ -28,7 +30,8 @@ struct Turn {
 // One read, and what it answers as one number: how many bytes it put at the front of the buffer, or -1 where it failed.
 fn read_once<R: Read>(input: &mut R, into: &mut [u8]) -> isize
     requires { length into.old ≤ 16384 }
-    ensures { Moved (length into.old) result }
+    ensures moved { Moved (length into.old) result }
+    ensures took { Took (R.remaining input.old) (R.remaining input.new) result into.new }
 {
     match input.read(into) {
         Ok(count) => count as isize,
@@ -52,12 +55,16 @@ fn read_count(got: isize, bytes: &[u8]) -> usize
 }
 
 // Whether nobody reads any more what is written.
-fn is_unread(error: Error) -> bool {
+fn is_unread(error: Error) -> bool
+    ensures { IsTrue result ↔ (error_kind error ≡ ErrorKind.BrokenPipe) }
+{
     matches!(error.kind(), ErrorKind::BrokenPipe)
 }
 
 // All of the bytes are written, or a write fails or takes none of those that it is handed. Where nobody reads them, the status says so.
-fn write_all<W: Write>(output: &mut W, status: &mut u8, bytes: &[u8]) -> bool {
+fn write_all<W: Write>(output: &mut W, status: &mut u8, bytes: &[u8]) -> bool
+    ensures { IsTrue result → Appends (W.contents output.old) (W.contents output.new) bytes.now }
+{
     let mut done = 0;
     while done < bytes.len() {
         match output.write(&bytes[done..]) {
@@ -86,7 +93,9 @@ fn write_answers<W: Write, E: Write>(
     errors: &mut E,
     status: &mut u8,
     answers: &[u8],
-) -> bool {
+) -> bool
+    ensures { IsTrue result → Appends (W.contents output.old) (W.contents output.new) answers.now }
+{
     if write_all(output, status, answers) {
         return true;
     }

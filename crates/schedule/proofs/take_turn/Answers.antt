@@ -11,5 +11,5 @@ returns g c =
       c.after_read.ensures.0,
       turn_of a.bytes.now a.held (omega arith) (omega arith) _
           (same_len_mid a.held (length a.bytes.now - a.held) a.bytes.now read.new.into read.auto.into)
-          _ read.result (to_z-of_z {w = w64} (record { sfits = read.type_inv })) read.ensures _ _ _ _ _ _ c.after_read.ensures.1,
+          _ read.result (to_z-of_z {w = w64} (record { sfits = read.type_inv })) read.ensures.moved _ _ _ _ _ _ c.after_read.ensures.1,
     )
