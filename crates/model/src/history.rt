@@ -1,19 +1,43 @@
 // The histories: each item's published versions in the order in which line 46 published them, the register's own as version 0.
 // The first STAMPED of them have a valid stamp. Only the newest can lack one, since a vCAS helps the head (line 42) before
 // its line 46 puts a version after it; and stamps never fall along a history, since line 21 reads a counter that never falls.
+// Memory and item stay two parameters: a struct of them would be needed twice, with the memory lent to be read and to be written.
 use crate::memory::{
-    COUNTER, GIVEN_OUT, ROOM, ROW, SIZE, STAMPED, STAMPS, VALUES, VERSIONS, field, get, less,
-    less_one, put, set_field, sum,
+    COUNTER, GIVEN_OUT, ITEMS, ROOM, ROW, SIZE, STAMPED, STAMPS, VALUES, VERSIONS, field, get, put,
+    set_field,
 };
+
+// The item's row in a column of versions, as many of them as another column says.
+fn row(memory: &[usize], column: usize, item: usize, count: usize) -> &[usize] {
+    let start = column.wrapping_add(field(memory, ROW, item));
+    let end = start.wrapping_add(field(memory, count, item));
+    memory.get(start..end).unwrap_or(&[])
+}
+
+fn values(memory: &[usize], item: usize) -> &[usize] {
+    row(memory, VALUES, item, VERSIONS)
+}
+
+// The stamps of the versions that have one.
+fn stamps(memory: &[usize], item: usize) -> &[usize] {
+    row(memory, STAMPS, item, STAMPED)
+}
 
 // The head that lines 37, 41, 32 and 51 fetch.
 pub fn newest(memory: &[usize], item: usize) -> usize {
-    less_one(field(memory, VERSIONS, item))
+    field(memory, VERSIONS, item).saturating_sub(1)
 }
 
 pub fn value_of(memory: &[usize], item: usize, version: usize) -> usize {
-    let row = field(memory, ROW, item);
-    field(memory, VALUES, sum(row, version))
+    get(values(memory, item), version)
+}
+
+// The value of the item's newest published version, stamped or not; 0 where the item is not there.
+pub fn present_value(memory: &[usize], item: usize) -> usize {
+    if get(memory, ITEMS) <= item {
+        return 0;
+    }
+    value_of(memory, item, newest(memory, item))
 }
 
 // What line 20 asks.
@@ -27,22 +51,21 @@ pub fn stamp(memory: &mut [usize], item: usize, version: usize, counter: usize) 
         return;
     }
     let row = field(memory, ROW, item);
-    set_field(memory, STAMPS, sum(row, version), counter);
-    set_field(memory, STAMPED, item, sum(version, 1));
+    set_field(memory, STAMPS, row.wrapping_add(version), counter);
+    set_field(memory, STAMPED, item, version.wrapping_add(1));
 }
 
 // A history starts with a row for one version; "this stamp is the item's birth stamp".
 pub fn begin(memory: &mut [usize], item: usize, value: usize, size: usize) {
     let row = get(memory, GIVEN_OUT);
-    put(memory, GIVEN_OUT, sum(row, 1));
+    put(memory, GIVEN_OUT, row.wrapping_add(1));
     set_field(memory, ROW, item, row);
     set_field(memory, ROOM, item, 1);
     set_field(memory, SIZE, item, size);
     set_field(memory, VERSIONS, item, 0);
     set_field(memory, STAMPED, item, 0);
     publish(memory, item, value);
-    let counter = get(memory, COUNTER);
-    stamp(memory, item, 0, counter);
+    stamp(memory, item, 0, get(memory, COUNTER));
 }
 
 // Line 46 where it succeeds: the value becomes the newest version, without a stamp.
@@ -50,8 +73,8 @@ pub fn publish(memory: &mut [usize], item: usize, value: usize) {
     make_room(memory, item);
     let row = field(memory, ROW, item);
     let versions = field(memory, VERSIONS, item);
-    set_field(memory, VALUES, sum(row, versions), value);
-    set_field(memory, VERSIONS, item, sum(versions, 1));
+    set_field(memory, VALUES, row.wrapping_add(versions), value);
+    set_field(memory, VERSIONS, item, versions.wrapping_add(1));
 }
 
 // Moves a full row to a new one of twice its room.
@@ -63,72 +86,45 @@ fn make_room(memory: &mut [usize], item: usize) {
     }
     let row = field(memory, ROW, item);
     let moved = get(memory, GIVEN_OUT);
+    let twice = room.wrapping_add(room);
     copy(memory, VALUES, row, moved, versions);
     copy(memory, STAMPS, row, moved, versions);
     set_field(memory, ROW, item, moved);
-    set_field(memory, ROOM, item, sum(room, room));
-    put(memory, GIVEN_OUT, sum(moved, sum(room, room)));
+    set_field(memory, ROOM, item, twice);
+    put(memory, GIVEN_OUT, moved.wrapping_add(twice));
 }
 
+// Number by number: copy_within asks that all the places are there, and the tests of that are longer than this.
 fn copy(memory: &mut [usize], column: usize, from: usize, to: usize, count: usize) {
     for version in 0..count {
-        let number = field(memory, column, sum(from, version));
-        set_field(memory, column, sum(to, version), number);
+        let number = field(memory, column, from.wrapping_add(version));
+        set_field(memory, column, to.wrapping_add(version), number);
     }
 }
 
-// How many of the item's versions are stamped at most the handle. They are its first ones, so halving finds their end.
+// How many of the item's versions are stamped at most the handle. They are its first ones.
 pub fn versions_by(memory: &[usize], item: usize, handle: usize) -> usize {
-    let row = field(memory, ROW, item);
-    let mut low = 0;
-    let mut high = field(memory, STAMPED, item);
-    while low < high {
-        let middle = low + (high - low) / 2;
-        if field(memory, STAMPS, sum(row, middle)) <= handle {
-            low = middle + 1;
-        } else {
-            high = middle;
-        }
-    }
-    low
+    stamps(memory, item).partition_point(|stamp| *stamp <= handle)
 }
 
 // Definition 1: "the value O had when T occurred", T having answered the handle: that of the last version stamped at most it.
-pub fn value_at(memory: &[usize], item: usize, handle: usize) -> usize {
-    let by = versions_by(memory, item, handle);
-    value_of(memory, item, less_one(by))
+// None where the item was born after the handle.
+pub fn value_at(memory: &[usize], item: usize, handle: usize) -> Option<usize> {
+    let last = versions_by(memory, item, handle).checked_sub(1)?;
+    Some(value_of(memory, item, last))
 }
 
 // Demand 3's k: how many versions, from the fetched one back, are stamped above the handle. Versions published after the
 // fetch are stamped above the handle too, since it was below the counter already, so they are not among versions_by.
 pub fn above(memory: &[usize], item: usize, version: usize, handle: usize) -> usize {
     let by = versions_by(memory, item, handle);
-    less(sum(version, 1), by)
-}
-
-// Refusal 9, and a total's "one step if born after the handle".
-pub fn is_born_after(memory: &[usize], item: usize, handle: usize) -> bool {
-    let row = field(memory, ROW, item);
-    handle < field(memory, STAMPS, row)
+    version.wrapping_add(1).saturating_sub(by)
 }
 
 // "the sum of sizes of the items whose value at the handle is that project", of the items noted at the start.
 pub fn total_at(memory: &[usize], noted: usize, project: usize, handle: usize) -> usize {
-    let mut total = 0;
-    for item in 0..noted {
-        let part = part_at(memory, item, project, handle);
-        total = sum(total, part);
-    }
-    total
-}
-
-// What one item adds to a total.
-fn part_at(memory: &[usize], item: usize, project: usize, handle: usize) -> usize {
-    if is_born_after(memory, item, handle) {
-        return 0;
-    }
-    if value_at(memory, item, handle) != project {
-        return 0;
-    }
-    field(memory, SIZE, item)
+    (0..noted)
+        .filter(|item| value_at(memory, *item, handle) == Some(project))
+        .map(|item| field(memory, SIZE, item))
+        .fold(0, |total, size| total.wrapping_add(size))
 }

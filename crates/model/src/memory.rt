@@ -1,5 +1,6 @@
 // The numbers that the model keeps, in memory that the caller lends. A column has one number for each worker, each item or
 // each version. A place that is not there reads as 0 and is not written, so no call asks anything of its caller.
+// It stays a slice of numbers: soak calls v_read, step and the others with one, of any length and contents, and there is no heap.
 
 // How many numbers the caller lends, all 0 at first.
 pub const MEMORY: usize = 35072;
@@ -25,7 +26,7 @@ pub const TAKEN: usize = 8;
 // How much of the two columns of versions is given out.
 pub const GIVEN_OUT: usize = 9;
 
-// Columns with a number for each of 64 workers. OPERATION is 0 for an idle worker.
+// Columns with a number for each of 64 workers: the fields of a Record, which the crate model_operations has.
 pub const OPERATION: usize = 64;
 
 pub const STEPS: usize = 128;
@@ -41,20 +42,18 @@ pub const HANDLE: usize = 384;
 pub const PROJECT: usize = 448;
 
 pub const NOTED: usize = 512;
-// The number of the step that fetches the head (37, 41, 32, 51), or that published the own version (46).
+
 pub const FETCH: usize = 576;
-// Which version of the item that step found newest, counted from 0.
+
 pub const VERSION: usize = 640;
-// 1 where line 20 found TBD.
+
 pub const FOUND_TBD: usize = 704;
-// The counter as line 21 or line 5 read it.
+
 pub const COUNTER_READ: usize = 768;
-// The number of the step that does the last test of line 34.
-pub const LAST_TEST: usize = 832;
-// How line 46 went: 0 not yet, 1 it succeeded, 2 it failed.
-pub const OUTCOME: usize = 896;
-// 1 where the worker has taken a node at 45 that is neither published nor given back.
-pub const HOLDS: usize = 960;
+
+pub const OUTCOME: usize = 832;
+
+pub const HOLDS: usize = 896;
 
 // Columns with a number for each of 256 items. The item's history is a row in the columns of versions.
 pub const ROW: usize = 1024;
@@ -75,50 +74,21 @@ pub const STAMPS: usize = 18688;
 
 // The number at a place, and 0 where it is not there.
 pub fn get(memory: &[usize], at: usize) -> usize {
-    if at < memory.len() {
-        return memory[at];
-    }
-    0
+    memory.get(at).copied().unwrap_or(0)
 }
 
 pub fn put(memory: &mut [usize], at: usize, number: usize) {
-    if at < memory.len() {
-        memory[at] = number;
+    if let Some(place) = memory.get_mut(at) {
+        *place = number;
     }
 }
 
-// The sum. The model's numbers stay below 2^41, so it never wraps; nothing has to be proved of what was read.
-pub fn sum(a: usize, b: usize) -> usize {
-    std::num::wrapping_add_usize(a, b)
-}
-
-// The difference, 0 where there is none.
-pub fn less(a: usize, b: usize) -> usize {
-    if b <= a {
-        return a - b;
-    }
-    0
-}
-
-pub fn less_one(a: usize) -> usize {
-    less(a, 1)
-}
-
-// What a column has for a worker, an item or a version.
+// What a column has for a worker, an item or a version. No sum of the model's wraps, since its numbers stay below 2^41;
+// the sums are wrapping ones so that nothing has to be proved of what was read.
 pub fn field(memory: &[usize], column: usize, number: usize) -> usize {
-    get(memory, sum(column, number))
+    get(memory, column.wrapping_add(number))
 }
 
 pub fn set_field(memory: &mut [usize], column: usize, number: usize, to: usize) {
-    put(memory, sum(column, number), to);
-}
-
-// The value of the item's newest published version, stamped or not; 0 where the item is not there.
-pub fn present_value(memory: &[usize], item: usize) -> usize {
-    if get(memory, ITEMS) <= item {
-        return 0;
-    }
-    let newest = less_one(field(memory, VERSIONS, item));
-    let row = field(memory, ROW, item);
-    field(memory, VALUES, sum(row, newest))
+    put(memory, column.wrapping_add(number), to);
 }

@@ -4,4 +4,5 @@
 pub mod abandons;
 pub mod starts;
 pub mod stepping;
-pub mod vcas;
+mod vcas;
+mod workers;

@@ -1,63 +1,34 @@
 // The starts of the five operations. "Starting touches the worker's record and is not a step."
-use model::history::is_born_after;
-use model::memory::{
-    COUNTER, FETCH, HANDLE, HOLDS, ITEM, ITEMS, NEW, NOTED, OLD, OPERATION, OUTCOME, PROJECT,
-    PROJECTS, STEPS, WORKERS, field, get, set_field,
-};
-use model::setup::{Reply, done, is_damaged, refused};
-
-pub const V_READ: usize = 1;
-
-pub const V_CAS: usize = 2;
-
-pub const TAKE_SNAPSHOT: usize = 3;
-
-pub const READ_SNAPSHOT: usize = 4;
-
-pub const TOTAL: usize = 5;
+use crate::workers::{Operation, Record, check_worker, operation_of};
+use model::history::value_at;
+use model::memory::{COUNTER, ITEMS, PROJECTS, WORKERS, get};
+use model::replies::Refusal;
 
 // Whether the worker is idle. A worker that is not there is in no operation.
 pub fn is_resting(memory: &[usize], worker: usize) -> bool {
-    if get(memory, WORKERS) <= worker {
-        return true;
-    }
-    field(memory, OPERATION, worker) == 0
+    get(memory, WORKERS) <= worker || operation_of(memory, worker).is_none()
 }
 
-// The refusals that every start shares, in the table's order: 2, 3, 4; 0 for none.
-fn refusal(memory: &[usize], lent: usize, worker: usize) -> usize {
-    if is_damaged(memory, lent) {
-        return 2;
-    }
-    if get(memory, WORKERS) <= worker {
-        return 3;
-    }
-    if is_resting(memory, worker) {
-        return 0;
-    }
-    4
+// The refusals that every start shares, in the table's order: 2, 3, 4.
+fn check_idle(memory: &[usize], lent: usize, worker: usize) -> Result<(), Refusal> {
+    check_worker(memory, lent, worker)?;
+    Refusal::InOperation.when(operation_of(memory, worker).is_some())
 }
 
-// No step is done, no node is held, and the first step is to fetch a head.
-fn begin(memory: &mut [usize], worker: usize, operation: usize) -> Reply {
-    set_field(memory, OPERATION, worker, operation);
-    set_field(memory, STEPS, worker, 0);
-    set_field(memory, FETCH, worker, 1);
-    set_field(memory, OUTCOME, worker, 0);
-    set_field(memory, HOLDS, worker, 0);
-    done(0)
-}
-
-pub fn v_read(memory: &mut [usize], lent: usize, worker: usize, item: usize) -> Reply {
-    let number = refusal(memory, lent, worker);
-    if number != 0 {
-        return refused(number);
-    }
-    if get(memory, ITEMS) <= item {
-        return refused(6);
-    }
-    set_field(memory, ITEM, worker, item);
-    begin(memory, worker, V_READ)
+pub fn v_read(
+    memory: &mut [usize],
+    lent: usize,
+    worker: usize,
+    item: usize,
+) -> Result<(), Refusal> {
+    check_idle(memory, lent, worker)?;
+    Refusal::NotRegistered.when(get(memory, ITEMS) <= item)?;
+    let record = Record {
+        item,
+        ..Record::starting(Operation::VRead)
+    };
+    record.write(memory, worker);
+    Ok(())
 }
 
 // Refusal 7 is "a project number is Q or more": both of a vCAS's values are project numbers.
@@ -66,36 +37,29 @@ pub fn v_cas(
     lent: usize,
     worker: usize,
     item: usize,
-    old: usize,
-    new: usize,
-) -> Reply {
-    let number = refusal(memory, lent, worker);
-    if number != 0 {
-        return refused(number);
-    }
-    if get(memory, ITEMS) <= item {
-        return refused(6);
-    }
+    old_value: usize,
+    new_value: usize,
+) -> Result<(), Refusal> {
+    check_idle(memory, lent, worker)?;
+    Refusal::NotRegistered.when(get(memory, ITEMS) <= item)?;
     let projects = get(memory, PROJECTS);
-    if projects <= old {
-        return refused(7);
-    }
-    if projects <= new {
-        return refused(7);
-    }
-    set_field(memory, ITEM, worker, item);
-    set_field(memory, OLD, worker, old);
-    set_field(memory, NEW, worker, new);
-    begin(memory, worker, V_CAS)
+    Refusal::NoSuchProject.when(projects <= old_value || projects <= new_value)?;
+    let record = Record {
+        item,
+        old_value,
+        new_value,
+        ..Record::starting(Operation::VCas)
+    };
+    record.write(memory, worker);
+    Ok(())
 }
 
 // The counter is tested against C at line 5 and not here.
-pub fn take_snapshot(memory: &mut [usize], lent: usize, worker: usize) -> Reply {
-    let number = refusal(memory, lent, worker);
-    if number != 0 {
-        return refused(number);
-    }
-    begin(memory, worker, TAKE_SNAPSHOT)
+pub fn take_snapshot(memory: &mut [usize], lent: usize, worker: usize) -> Result<(), Refusal> {
+    check_idle(memory, lent, worker)?;
+    let record = Record::starting(Operation::TakeSnapshot);
+    record.write(memory, worker);
+    Ok(())
 }
 
 pub fn read_snapshot(
@@ -104,23 +68,18 @@ pub fn read_snapshot(
     worker: usize,
     item: usize,
     handle: usize,
-) -> Reply {
-    let number = refusal(memory, lent, worker);
-    if number != 0 {
-        return refused(number);
-    }
-    if get(memory, ITEMS) <= item {
-        return refused(6);
-    }
-    if get(memory, COUNTER) <= handle {
-        return refused(8);
-    }
-    if is_born_after(memory, item, handle) {
-        return refused(9);
-    }
-    set_field(memory, ITEM, worker, item);
-    set_field(memory, HANDLE, worker, handle);
-    begin(memory, worker, READ_SNAPSHOT)
+) -> Result<(), Refusal> {
+    check_idle(memory, lent, worker)?;
+    Refusal::NotRegistered.when(get(memory, ITEMS) <= item)?;
+    Refusal::HandleNotGiven.when(get(memory, COUNTER) <= handle)?;
+    Refusal::HandleBelowBirth.when(value_at(memory, item, handle).is_none())?;
+    let record = Record {
+        item,
+        handle,
+        ..Record::starting(Operation::ReadSnapshot)
+    };
+    record.write(memory, worker);
+    Ok(())
 }
 
 // "the number of items is noted at the start. Items go in ascending order".
@@ -130,21 +89,16 @@ pub fn total(
     worker: usize,
     project: usize,
     handle: usize,
-) -> Reply {
-    let number = refusal(memory, lent, worker);
-    if number != 0 {
-        return refused(number);
-    }
-    if get(memory, PROJECTS) <= project {
-        return refused(7);
-    }
-    if get(memory, COUNTER) <= handle {
-        return refused(8);
-    }
-    let noted = get(memory, ITEMS);
-    set_field(memory, NOTED, worker, noted);
-    set_field(memory, ITEM, worker, 0);
-    set_field(memory, PROJECT, worker, project);
-    set_field(memory, HANDLE, worker, handle);
-    begin(memory, worker, TOTAL)
+) -> Result<(), Refusal> {
+    check_idle(memory, lent, worker)?;
+    Refusal::NoSuchProject.when(get(memory, PROJECTS) <= project)?;
+    Refusal::HandleNotGiven.when(get(memory, COUNTER) <= handle)?;
+    let record = Record {
+        noted: get(memory, ITEMS),
+        project,
+        handle,
+        ..Record::starting(Operation::Total)
+    };
+    record.write(memory, worker);
+    Ok(())
 }

@@ -1,206 +1,108 @@
 // A step. What it does follows from how many steps the operation has done since the one that fetched its head: the next one
 // is line 20; where that found TBD the two after it are lines 21 and 22; then come the operation's own lines.
-use crate::starts::{READ_SNAPSHOT, TAKE_SNAPSHOT, TOTAL, V_CAS, V_READ, is_resting};
-use crate::vcas;
-use model::history::{
-    above, is_born_after, is_stamped, newest, stamp, total_at, value_at, value_of,
-};
-use model::memory::{
-    COUNTER, COUNTER_READ, FETCH, FOUND_TBD, HANDLE, ITEM, LARGEST_COUNTER, LAST_TEST, NOTED,
-    OPERATION, PROJECT, STEPS, VERSION, WORKERS, field, get, less, put, set_field, sum,
-};
-use model::setup::{Reply, is_damaged, refused};
+// A line answers None where the operation goes on, and Some of its value where it ends.
+use crate::workers::{Operation, Record, rest, running};
+use model::history::{above, is_stamped, newest, stamp, total_at, value_at, value_of};
+use model::memory::{COUNTER, LARGEST_COUNTER, get, put};
+use model::replies::{Refusal, Reply};
 
-pub fn running(steps: usize) -> Reply {
-    Reply {
-        code: 1,
-        value: 0,
-        steps: steps,
-    }
-}
-
-pub fn finished(memory: &mut [usize], worker: usize, value: usize, steps: usize) -> Reply {
-    set_field(memory, OPERATION, worker, 0);
-    Reply {
-        code: 0,
-        value: value,
-        steps: steps,
+pub fn step(memory: &mut [usize], lent: usize, worker: usize) -> Reply {
+    match running(memory, lent, worker) {
+        Ok(operation) => advance(memory, worker, operation),
+        Err(refusal) => Reply::from(refusal),
     }
 }
 
 // "11 and 12 during a step end the operation, make the worker idle, and answer its steps, that step included".
-pub fn ended_by(memory: &mut [usize], worker: usize, number: usize, steps: usize) -> Reply {
-    set_field(memory, OPERATION, worker, 0);
-    Reply {
-        code: sum(16, number),
-        value: 0,
-        steps: steps,
-    }
-}
-
-// The refusals that a step and an abandon share, in the table's order: 2, 3, 5; 0 for none.
-pub fn refusal(memory: &[usize], lent: usize, worker: usize) -> usize {
-    if is_damaged(memory, lent) {
-        return 2;
-    }
-    if get(memory, WORKERS) <= worker {
-        return 3;
-    }
-    if is_resting(memory, worker) {
-        return 5;
-    }
-    0
-}
-
-pub fn step(memory: &mut [usize], lent: usize, worker: usize) -> Reply {
-    let number = refusal(memory, lent, worker);
-    if number != 0 {
-        return refused(number);
-    }
-    let steps = sum(field(memory, STEPS, worker), 1);
-    set_field(memory, STEPS, worker, steps);
-    if field(memory, OPERATION, worker) == TAKE_SNAPSHOT {
-        return camera_step(memory, worker, steps);
-    }
-    item_step(memory, worker, steps)
-}
-
-// Line 5 reads the counter, refusal 12 where it is C. Line 6 "tries once to change the counter from the number read to one
-// more, and answers that number whether or not its own attempt succeeded".
-fn camera_step(memory: &mut [usize], worker: usize, steps: usize) -> Reply {
-    let counter = get(memory, COUNTER);
-    if steps == 1 {
-        if counter == get(memory, LARGEST_COUNTER) {
-            return ended_by(memory, worker, 12, steps);
+fn advance(memory: &mut [usize], worker: usize, operation: Operation) -> Reply {
+    let mut record = Record::read(memory, worker, operation);
+    let steps = record.steps.wrapping_add(1);
+    record.steps = steps;
+    match record.line(memory) {
+        Ok(None) => {
+            record.write(memory, worker);
+            Reply::Running { steps }
         }
-        set_field(memory, COUNTER_READ, worker, counter);
-        return running(steps);
-    }
-    let read = field(memory, COUNTER_READ, worker);
-    move_counter(memory, read);
-    finished(memory, worker, read, steps)
-}
-
-fn move_counter(memory: &mut [usize], read: usize) {
-    if get(memory, COUNTER) == read {
-        put(memory, COUNTER, sum(read, 1));
-    }
-}
-
-// The other operations work on an item. A step before the fetch is line 50, which a lost vCAS does before it fetches at 51.
-fn item_step(memory: &mut [usize], worker: usize, steps: usize) -> Reply {
-    let fetch = field(memory, FETCH, worker);
-    if steps < fetch {
-        vcas::give_back(memory, worker);
-        return running(steps);
-    }
-    let since = steps - fetch;
-    if since == 0 {
-        return fetch_head(memory, worker, steps);
-    }
-    if since == 1 {
-        return read_stamp(memory, worker, steps);
-    }
-    if field(memory, FOUND_TBD, worker) == 0 {
-        return own_line(memory, worker, steps, less(since, 2));
-    }
-    if since == 2 {
-        return read_counter(memory, worker, steps);
-    }
-    if since == 3 {
-        return store_stamp(memory, worker, steps);
-    }
-    own_line(memory, worker, steps, less(since, 4))
-}
-
-// Lines 37, 41, 32 and 51. A total may find instead that its items are all done, or that the next is born after the handle.
-fn fetch_head(memory: &mut [usize], worker: usize, steps: usize) -> Reply {
-    let item = field(memory, ITEM, worker);
-    if field(memory, OPERATION, worker) == TOTAL {
-        let handle = field(memory, HANDLE, worker);
-        let noted = field(memory, NOTED, worker);
-        if noted <= item {
-            let project = field(memory, PROJECT, worker);
-            let value = total_at(memory, noted, project, handle);
-            return finished(memory, worker, value, steps);
+        Ok(Some(value)) => {
+            rest(memory, worker);
+            Reply::Finished { value, steps }
         }
-        if is_born_after(memory, item, handle) {
-            return next_item(memory, worker, steps);
+        Err(refusal) => {
+            rest(memory, worker);
+            Reply::Refused { refusal, steps }
         }
     }
-    let version = newest(memory, item);
-    set_field(memory, VERSION, worker, version);
-    running(steps)
 }
 
-// The total's next item begins at the next step.
-fn next_item(memory: &mut [usize], worker: usize, steps: usize) -> Reply {
-    let item = field(memory, ITEM, worker);
-    set_field(memory, ITEM, worker, sum(item, 1));
-    set_field(memory, FETCH, worker, sum(steps, 1));
-    running(steps)
-}
+impl Record {
+    fn line(&mut self, memory: &mut [usize]) -> Result<Option<usize>, Refusal> {
+        match self.operation {
+            Operation::VRead => Ok(self.v_read(memory)),
+            Operation::VCas => self.v_cas(memory),
+            Operation::TakeSnapshot => self.take_snapshot(memory),
+            Operation::ReadSnapshot => Ok(self.read_snapshot(memory)),
+            Operation::Total => Ok(self.total(memory)),
+        }
+    }
 
-// Line 20.
-fn read_stamp(memory: &mut [usize], worker: usize, steps: usize) -> Reply {
-    let item = field(memory, ITEM, worker);
-    let version = field(memory, VERSION, worker);
-    if is_stamped(memory, item, version) {
-        set_field(memory, FOUND_TBD, worker, 0);
-        return running(steps);
+    // "37, H on that head, 39".
+    fn v_read(&mut self, memory: &mut [usize]) -> Option<usize> {
+        self.fetch_and_help(memory)?;
+        Some(value_of(memory, self.item, self.version))
     }
-    set_field(memory, FOUND_TBD, worker, 1);
-    running(steps)
-}
 
-// Line 21.
-fn read_counter(memory: &mut [usize], worker: usize, steps: usize) -> Reply {
-    let counter = get(memory, COUNTER);
-    set_field(memory, COUNTER_READ, worker, counter);
-    running(steps)
-}
+    // Line 5 reads the counter, refusal 12 where it is C. Line 6 "tries once to change the counter from the number read to one
+    // more, and answers that number whether or not its own attempt succeeded".
+    fn take_snapshot(&mut self, memory: &mut [usize]) -> Result<Option<usize>, Refusal> {
+        let counter = get(memory, COUNTER);
+        if self.steps == 1 {
+            Refusal::LargestCounter.when(counter == get(memory, LARGEST_COUNTER))?;
+            self.counter_read = counter;
+            return Ok(None);
+        }
+        if counter == self.counter_read {
+            put(memory, COUNTER, counter.wrapping_add(1));
+        }
+        Ok(Some(self.counter_read))
+    }
 
-// Line 22.
-fn store_stamp(memory: &mut [usize], worker: usize, steps: usize) -> Reply {
-    let item = field(memory, ITEM, worker);
-    let version = field(memory, VERSION, worker);
-    let read = field(memory, COUNTER_READ, worker);
-    stamp(memory, item, version, read);
-    running(steps)
-}
+    // "32, H, then line 34 once per node tested": k tests move to the older version, and the one after them answers.
+    fn read_snapshot(&mut self, memory: &mut [usize]) -> Option<usize> {
+        let tests = self.fetch_and_help(memory)?;
+        if tests < above(memory, self.item, self.version, self.handle) {
+            return None;
+        }
+        value_at(memory, self.item, self.handle)
+    }
 
-// The lines of the operation's own, `after` of which are done since the help.
-fn own_line(memory: &mut [usize], worker: usize, steps: usize, after: usize) -> Reply {
-    let operation = field(memory, OPERATION, worker);
-    if operation == V_CAS {
-        return vcas::own_line(memory, worker, steps, after);
+    // "one step if born after the handle, otherwise the steps of a readSnapshot. One closing step answers".
+    fn total(&mut self, memory: &mut [usize]) -> Option<usize> {
+        if self.noted <= self.item {
+            return Some(total_at(memory, self.noted, self.project, self.handle));
+        }
+        let is_born_after = value_at(memory, self.item, self.handle).is_none();
+        if is_born_after || self.read_snapshot(memory).is_some() {
+            self.item = self.item.wrapping_add(1);
+            self.fetch = self.steps.wrapping_add(1);
+        }
+        None
     }
-    let item = field(memory, ITEM, worker);
-    if operation == V_READ {
-        let version = field(memory, VERSION, worker);
-        let value = value_of(memory, item, version);
-        return finished(memory, worker, value, steps);
-    }
-    note_last_test(memory, worker, steps, after);
-    if steps < field(memory, LAST_TEST, worker) {
-        return running(steps);
-    }
-    if operation == READ_SNAPSHOT {
-        let handle = field(memory, HANDLE, worker);
-        let value = value_at(memory, item, handle);
-        return finished(memory, worker, value, steps);
-    }
-    next_item(memory, worker, steps)
-}
 
-// "line 34 once per node tested": k tests move to the older version, and the one after them answers.
-fn note_last_test(memory: &mut [usize], worker: usize, steps: usize, after: usize) {
-    if after != 0 {
-        return;
+    // The fetch of a head and H on it, "1 or 3 steps"; then how many of the operation's own lines are done.
+    pub(crate) fn fetch_and_help(&mut self, memory: &mut [usize]) -> Option<usize> {
+        let since = self.steps.saturating_sub(self.fetch);
+        let help = if self.found_tbd { 3 } else { 1 };
+        match since {
+            // Lines 37, 41, 32 and 51.
+            0 => self.version = newest(memory, self.item),
+            // Line 20.
+            1 => self.found_tbd = !is_stamped(memory, self.item, self.version),
+            // Line 21.
+            2 if self.found_tbd => self.counter_read = get(memory, COUNTER),
+            // Line 22.
+            3 if self.found_tbd => stamp(memory, self.item, self.version, self.counter_read),
+            _ => return Some(since.saturating_sub(1 + help)),
+        }
+        None
     }
-    let item = field(memory, ITEM, worker);
-    let version = field(memory, VERSION, worker);
-    let handle = field(memory, HANDLE, worker);
-    let k = above(memory, item, version, handle);
-    set_field(memory, LAST_TEST, worker, sum(steps, k));
 }

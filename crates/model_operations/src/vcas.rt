@@ -1,80 +1,63 @@
-// The lines of a vCAS after its help: 43 with 44, 45, 46; then 48, or 50 and (after the help at 51) 52.
-use crate::stepping::{ended_by, finished, running};
+// A vCAS: 41, H, 43 with 44, 45, 46; then H on the own version and 48, or 50, 51, H and 52.
+use crate::workers::{Outcome, Record};
 use model::history::{newest, publish, value_of};
-use model::memory::{
-    FETCH, HOLDS, ITEM, NEW, NODES, OLD, OUTCOME, TAKEN, VERSION, field, get, less_one, put,
-    set_field, sum,
-};
-use model::setup::Reply;
+use model::memory::{TAKEN, get, put};
+use model::replies::Refusal;
+use model::setup::take_node;
 
-const SUCCEEDED: usize = 1;
+impl Record {
+    pub(crate) fn v_cas(&mut self, memory: &mut [usize]) -> Result<Option<usize>, Refusal> {
+        // Line 50 alone comes before a fetch.
+        if self.steps < self.fetch {
+            give_back(memory);
+            self.holds = false;
+            return Ok(None);
+        }
+        let Some(own) = self.fetch_and_help(memory) else {
+            return Ok(None);
+        };
+        match (self.outcome, own) {
+            (Outcome::NotYet, 0) => Ok(self.compare(memory)),
+            (Outcome::NotYet, 1) => self.take_node(memory),
+            (Outcome::NotYet, _) => Ok(self.change_head(memory)),
+            (Outcome::Succeeded, _) => Ok(Some(1)),
+            (Outcome::Failed, _) => Ok(Some(0)),
+        }
+    }
 
-const FAILED: usize = 2;
+    // "lines 43 and 44 together: value differs from old answers 0; new = old answers 1".
+    fn compare(&self, memory: &[usize]) -> Option<usize> {
+        if value_of(memory, self.item, self.version) != self.old_value {
+            return Some(0);
+        }
+        (self.new_value == self.old_value).then_some(1)
+    }
 
-pub fn own_line(memory: &mut [usize], worker: usize, steps: usize, after: usize) -> Reply {
-    let outcome = field(memory, OUTCOME, worker);
-    if outcome == SUCCEEDED {
-        return finished(memory, worker, 1, steps);
+    // Line 45.
+    fn take_node(&mut self, memory: &mut [usize]) -> Result<Option<usize>, Refusal> {
+        take_node(memory)?;
+        self.holds = true;
+        Ok(None)
     }
-    if outcome == FAILED {
-        return finished(memory, worker, 0, steps);
-    }
-    if after == 0 {
-        return compare(memory, worker, steps);
-    }
-    if after == 1 {
-        return take_node(memory, worker, steps);
-    }
-    change_head(memory, worker, steps)
-}
 
-// "lines 43 and 44 together: value differs from old answers 0; new = old answers 1".
-fn compare(memory: &mut [usize], worker: usize, steps: usize) -> Reply {
-    let item = field(memory, ITEM, worker);
-    let version = field(memory, VERSION, worker);
-    let old = field(memory, OLD, worker);
-    if value_of(memory, item, version) != old {
-        return finished(memory, worker, 0, steps);
+    // Line 46 succeeds exactly if no version was published since line 41. The help on the own version comes next; where it
+    // failed, line 50 comes next and the fetch of line 51 after that.
+    fn change_head(&mut self, memory: &mut [usize]) -> Option<usize> {
+        if newest(memory, self.item) == self.version {
+            publish(memory, self.item, self.new_value);
+            self.holds = false;
+            self.outcome = Outcome::Succeeded;
+            self.version = self.version.wrapping_add(1);
+            self.fetch = self.steps;
+        } else {
+            self.outcome = Outcome::Failed;
+            self.fetch = self.steps.wrapping_add(2);
+        }
+        None
     }
-    if field(memory, NEW, worker) == old {
-        return finished(memory, worker, 1, steps);
-    }
-    running(steps)
-}
-
-// Line 45. Refusal 11: "no node waits and all N were used, so each is published or held".
-fn take_node(memory: &mut [usize], worker: usize, steps: usize) -> Reply {
-    let taken = get(memory, TAKEN);
-    if get(memory, NODES) <= taken {
-        return ended_by(memory, worker, 11, steps);
-    }
-    put(memory, TAKEN, sum(taken, 1));
-    set_field(memory, HOLDS, worker, 1);
-    running(steps)
-}
-
-// Line 46 succeeds exactly if no version was published since line 41. The help on the own version comes next; where it
-// failed, line 50 comes next and the fetch of line 51 after that.
-fn change_head(memory: &mut [usize], worker: usize, steps: usize) -> Reply {
-    let item = field(memory, ITEM, worker);
-    let version = field(memory, VERSION, worker);
-    if newest(memory, item) != version {
-        set_field(memory, OUTCOME, worker, FAILED);
-        set_field(memory, FETCH, worker, sum(steps, 2));
-        return running(steps);
-    }
-    let new = field(memory, NEW, worker);
-    publish(memory, item, new);
-    set_field(memory, HOLDS, worker, 0);
-    set_field(memory, OUTCOME, worker, SUCCEEDED);
-    set_field(memory, VERSION, worker, sum(version, 1));
-    set_field(memory, FETCH, worker, steps);
-    running(steps)
 }
 
 // Line 50: the node waits to be taken again.
-pub fn give_back(memory: &mut [usize], worker: usize) {
-    let taken = get(memory, TAKEN);
-    put(memory, TAKEN, less_one(taken));
-    set_field(memory, HOLDS, worker, 0);
+pub(crate) fn give_back(memory: &mut [usize]) {
+    put(memory, TAKEN, get(memory, TAKEN).saturating_sub(1));
 }

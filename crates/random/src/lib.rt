@@ -1,4 +1,4 @@
-// Document 01's generator. The sum that wraps is supplied, the product that wraps is a proved helper of its own.
+// Document 01's generator. Its sum and its product wrap at 32 bits, and the library supplies both.
 #![tactic(auto)]
 
 ghost use Rattle.std.specs.Prelude.{◌≡◌, ◌*◌, ◌%◌};
@@ -8,14 +8,14 @@ ghost use Rattle.random.specs.Generator.{next_of, draw_of, draw_among};
 pub fn wrapping_mul(x: u32, y: u32) -> u32
     ensures { result ≡ (x * y) % 4294967296 }
 {
-    (((x as u64) * (y as u64)) % 4294967296) as u32
+    x.wrapping_mul(y)
 }
 
 // The generator's number after x.
 pub fn next(x: u32) -> u32
     ensures { result ≡ next_of x }
 {
-    std::num::wrapping_add_u32(wrapping_mul(1664525, x), 1013904223)
+    wrapping_mul(1664525, x).wrapping_add(1013904223)
 }
 
 // The draw that the generator's number x gives.
@@ -29,8 +29,5 @@ pub fn draw(x: u32) -> u32
 pub fn draw_among(x: u32, some: u32) -> u32
     ensures { result ≡ draw_among x some }
 {
-    if some == 0 {
-        return 0;
-    }
-    x / 65536 % some
+    draw(x).checked_rem(some).unwrap_or(0)
 }

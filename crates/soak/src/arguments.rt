@@ -12,100 +12,67 @@ const MOST_SEED: u64 = 4294967295;
 const MOST_ROUNDS: u64 = 1000000000000;
 // The longest argument that is read; a longer one is refused.
 const LONGEST_ARGUMENT: usize = 4096;
-// What stands for a text that is no number, or one beyond any argument's range.
-const NO_NUMBER: u64 = 18446744073709551615;
 
-#[derive(Drop)]
+#[derive(Clone, Copy)]
 pub struct Arguments {
-    pub good: bool,
     pub seed: u64,
     pub rounds: u64,
 }
 
-// One more decimal digit.
-fn with_digit(number: u64, byte: u8) -> u64 {
-    if MOST_ROUNDS < number {
-        return NO_NUMBER;
-    }
-    if byte < b'0' {
-        return NO_NUMBER;
-    }
-    if b'9' < byte {
-        return NO_NUMBER;
-    }
-    number * 10 + (byte - b'0') as u64
+// What an argument says.
+#[derive(Clone, Copy, PartialEq, Eq)]
+enum Argument {
+    Missing,
+    Help,
+    Number(u64),
+    Other,
 }
 
-// Of one decimal digit or more, and nothing else.
-fn number_in(text: &[u8]) -> u64 {
-    if text.len() == 0 {
-        return NO_NUMBER;
+// Of one decimal digit or more, and nothing else: the library's numbers may have a sign.
+fn number_in(text: &str) -> Option<u64> {
+    if text.bytes().all(|byte| byte.is_ascii_digit()) {
+        return text.parse().ok();
     }
-    let mut number: u64 = 0;
-    let mut i = 0;
-    while i < text.len() {
-        number = with_digit(number, text[i]);
-        i += 1;
-    }
-    number
+    None
 }
 
-// Argument i as a number, or what stands in for it where it is missing.
-fn argument(rt: &impl Env, i: usize, otherwise: u64) -> u64 {
+fn read_argument(text: &[u8]) -> Argument {
+    match str::from_utf8(text) {
+        Ok("-h" | "--help") => Argument::Help,
+        Ok(text) => number_in(text).map_or(Argument::Other, Argument::Number),
+        Err(_) => Argument::Other,
+    }
+}
+
+fn argument_at(rt: &impl Env, i: usize) -> Argument {
     let mut text = [0u8; LONGEST_ARGUMENT];
     match rt.arg(i, &mut text) {
-        Ok(n) => number_in(&text[..n]),
-        Err(FillError::NotPresent) => otherwise,
-        Err(FillError::TooLong) => NO_NUMBER,
+        Ok(n) => read_argument(&text[..n]),
+        Err(FillError::NotPresent) => Argument::Missing,
+        Err(FillError::TooLong) => Argument::Other,
     }
 }
 
-// Whether argument i is missing.
-fn is_missing(rt: &impl Env, i: usize) -> bool {
-    let mut text = [0u8; LONGEST_ARGUMENT];
-    match rt.arg(i, &mut text) {
-        Err(FillError::NotPresent) => true,
-        _ => false,
+// Argument i as a number of at most some, or what stands in for it where it is missing.
+fn number(rt: &impl Env, i: usize, most: u64, otherwise: u64) -> Option<u64> {
+    match argument_at(rt, i) {
+        Argument::Number(number) if number <= most => Some(number),
+        Argument::Missing => Some(otherwise),
+        _ => None,
     }
 }
 
-pub fn read(rt: &impl Env) -> Arguments {
-    let seed = argument(rt, 1, DEFAULT_SEED);
-    let rounds = argument(rt, 2, DEFAULT_ROUNDS);
-    let good = is_missing(rt, 3) & (seed <= MOST_SEED) & (rounds <= MOST_ROUNDS);
-    Arguments { good, seed, rounds }
-}
-
-// -h or --help.
-fn is_help(text: &[u8]) -> bool {
-    if text.len() == 2 {
-        return (text[0] == b'-') & (text[1] == b'h');
-    }
-    if text.len() == 6 {
-        let dashes = (text[0] == b'-') & (text[1] == b'-');
-        return dashes
-            & (text[2] == b'h')
-            & (text[3] == b'e')
-            & (text[4] == b'l')
-            & (text[5] == b'p');
-    }
-    false
-}
-
-// Whether argument i is one of these two.
-fn asks_at(rt: &impl Env, i: usize) -> bool {
-    let mut text = [0u8; LONGEST_ARGUMENT];
-    match rt.arg(i, &mut text) {
-        Ok(n) => is_help(&text[..n]),
-        Err(_) => false,
-    }
+// None where an argument is refused.
+pub fn read(rt: &impl Env) -> Option<Arguments> {
+    let seed = number(rt, 1, MOST_SEED, DEFAULT_SEED)?;
+    let rounds = number(rt, 2, MOST_ROUNDS, DEFAULT_ROUNDS)?;
+    let arguments = Arguments { seed, rounds };
+    (argument_at(rt, 3) == Argument::Missing).then_some(arguments)
 }
 
 // As the first or the second argument.
 pub fn help_asked(rt: &impl Env) -> bool {
-    let first = asks_at(rt, 1);
-    let second = asks_at(rt, 2);
-    first | second
+    argument_at(rt, 1) == Argument::Help || argument_at(rt, 2) == Argument::Help
 }
 
 const USAGE: &str =

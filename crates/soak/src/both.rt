@@ -1,201 +1,240 @@
 // One call, on the code and on the model: logged, made twice, counted, compared.
-ghost use Rattle.std.specs.Prelude.{◌≡◌, ◌&&◌, ◌==◌};
+ghost use Rattle.std.specs.Prelude.{◌≡◌, ◌&&◌, ◌==◌, [], ◌∷◌};
+ghost use Rattle.model.specs.Replies.{numbers_of};
 
+use calls::start;
 use definitions::Answer;
-use model::setup::Reply;
-use std::io;
+use model::memory::MEMORY;
+use model::replies::Reply;
+use model::setup;
+use model::setup::Sizes;
+use model_operations::{abandons, starts, stepping};
+use std::{fmt, io};
 use tables::fields::{HEADER_WORDS, PHASE, WORKER_WORDS};
-use tally::draws::size_of;
 use tally::frames;
-use tally::frames::{ABANDON, Call};
+use tally::frames::{Call, Lent, Operation, WHOLE};
 use tally::notes::{
-    ABANDONED, ABANDONS, CATALOGUES, COMPARED, DIFFER, FIRST_AT, LIFE, LONGEST, PHASES, REFUSALS,
-    count, get, lower, move_place, place, put, raise,
+    ABANDONED, ABANDONS, CATALOGUES, COMPARED, DIFFER, FIRST_AT, LIFE, LONGEST, NOTES, PHASES,
+    REFUSALS, count, get, lower, move_place, put, raise,
 };
 
-fn code_says(words: &mut [u32], call: Call) -> Answer {
-    let operation = call.operation;
+// Room for 52,000 calls, six numbers each.
+pub const LOG: usize = 312000;
+
+// What a run works on: the code's words, the model's memory, the log of the calls, the notes.
+#[derive(Drop)]
+pub struct Bench {
+    pub words: [u32; WHOLE],
+    pub memory: [usize; MEMORY],
+    pub log: [u32; LOG],
+    pub tally: [u64; NOTES],
+}
+
+// What code and model are compared by. An answer is shown as the schedule program shows it.
+#[derive(Clone, Copy, PartialEq, Eq)]
+struct Said {
+    code: u64,
+    value: u64,
+    steps: u64,
+}
+
+impl From<&Answer> for Said {
+    ghost from_gives = { λ answer said. (said.code ≡ answer.now.code) × (said.value ≡ answer.now.value) × (said.steps ≡ answer.now.steps) };
+
+    fn from(answer: &Answer) -> Said {
+        Said {
+            code: u64::from(answer.code),
+            value: answer.value,
+            steps: u64::from(answer.steps),
+        }
+    }
+}
+
+impl From<Reply> for Said {
+    ghost from_gives = { λ reply said. said.code ∷ said.value ∷ said.steps ∷ [] ≡ numbers_of reply };
+
+    fn from(reply: Reply) -> Said {
+        let [code, value, steps] = reply.numbers();
+        Said {
+            code: code as u64,
+            value: value as u64,
+            steps: steps as u64,
+        }
+    }
+}
+
+impl fmt::Display for Said {
+    fn fmt<W: fmt::Write>(&self, f: &mut fmt::Formatter<W>) -> fmt::Result {
+        let Said { code, value, steps } = *self;
+        write!(f, "{code:02x}{value:016x}{steps:04x}")
+    }
+}
+
+// All three numbers.
+fn agree(code: Said, model: Said) -> bool
+    ensures { result ≡ (code.code == model.code && code.value == model.value) && (code.steps == model.steps) }
+{
+    code == model
+}
+
+fn code_starts(words: &mut [u32], worker: u32, operation: Operation) -> Answer {
     match operation {
-        1 => calls::make::make(words, call.a, call.b, call.c, call.d, call.e),
-        2 => calls::register::register(words, call.a, call.b),
-        3 => calls::start::start_vread(words, call.a, call.b),
-        4 => calls::start::start_vcas(words, call.a, call.b, call.c, call.d),
-        5 => calls::start::start_take_snapshot(words, call.a),
-        6 => calls::start::start_read_snapshot(words, call.a, call.b, call.c),
-        7 => calls::start::start_total(words, call.a, call.b, call.c),
-        8 => steps::step(words, call.a),
-        _ => abandon::abandon(words, call.a),
+        Operation::VRead { item } => start::start_vread(words, worker, item),
+        Operation::VCas { item, old, new } => start::start_vcas(words, worker, item, old, new),
+        Operation::TakeSnapshot => start::start_take_snapshot(words, worker),
+        Operation::ReadSnapshot { item, handle } => {
+            start::start_read_snapshot(words, worker, item, handle)
+        }
+        Operation::Total { project, handle } => {
+            start::start_total(words, worker, project, handle)
+        }
+    }
+}
+
+fn code_says(words: &mut [u32], call: Call) -> Answer {
+    match call {
+        Call::Make {
+            workers,
+            items,
+            nodes,
+            projects,
+            counter,
+        } => calls::make::make(words, workers, items, nodes, projects, counter),
+        Call::Register { value, size } => calls::register::register(words, value, size),
+        Call::Start { worker, operation } => code_starts(words, worker, operation),
+        Call::Step { worker } => steps::step(words, worker),
+        Call::Abandon { worker } => abandon::abandon(words, worker),
     }
 }
 
 // The code's answer, where as many words are lent as the call says.
-fn code_answers(words: &mut [u32], call: Call) -> Answer {
-    let lent = call.lent;
-    if lent < words.len() {
-        return code_says(&mut words[..lent], call);
-    }
-    code_says(words, call)
+fn code_answers(words: &mut [u32], lent: Lent) -> Answer {
+    let some = lent.words.min(words.len());
+    code_says(&mut words[..some], lent.call)
 }
 
-fn model_works(memory: &mut [usize], call: Call, lent: usize, worker: usize) -> Reply {
-    let operation = call.operation;
-    match operation {
-        3 => model_operations::starts::v_read(memory, lent, worker, size_of(call.b)),
-        4 => model_operations::starts::v_cas(
+fn model_starts(memory: &mut [usize], lent: usize, worker: usize, operation: Operation) -> Reply {
+    let started = match operation {
+        Operation::VRead { item } => starts::v_read(memory, lent, worker, item as usize),
+        Operation::VCas { item, old, new } => starts::v_cas(
             memory,
             lent,
             worker,
-            size_of(call.b),
-            size_of(call.c),
-            size_of(call.d),
+            item as usize,
+            old as usize,
+            new as usize,
         ),
-        5 => model_operations::starts::take_snapshot(memory, lent, worker),
-        6 => model_operations::starts::read_snapshot(
-            memory,
-            lent,
-            worker,
-            size_of(call.b),
-            size_of(call.c),
-        ),
-        7 => model_operations::starts::total(
-            memory,
-            lent,
-            worker,
-            size_of(call.b),
-            size_of(call.c),
-        ),
-        8 => model_operations::stepping::step(memory, lent, worker),
-        _ => model_operations::abandons::abandon(memory, lent, worker),
-    }
+        Operation::TakeSnapshot => starts::take_snapshot(memory, lent, worker),
+        Operation::ReadSnapshot { item, handle } => {
+            starts::read_snapshot(memory, lent, worker, item as usize, handle as usize)
+        }
+        Operation::Total { project, handle } => {
+            starts::total(memory, lent, worker, project as usize, handle as usize)
+        }
+    };
+    started.into()
 }
 
-fn model_answers(memory: &mut [usize], call: Call) -> Reply {
-    let operation = call.operation;
-    let lent = call.lent;
-    let first = size_of(call.a);
-    match operation {
-        1 => model::setup::make(
-            memory,
-            lent,
-            first,
-            size_of(call.b),
-            size_of(call.c),
-            size_of(call.d),
-            size_of(call.e),
-        ),
-        2 => model::setup::register(memory, lent, first, size_of(call.b)),
-        _ => model_works(memory, call, lent, first),
+fn model_answers(memory: &mut [usize], lent: Lent) -> Reply {
+    let words = lent.words;
+    match lent.call {
+        Call::Make {
+            workers,
+            items,
+            nodes,
+            projects,
+            counter,
+        } => {
+            let sizes = Sizes {
+                workers: workers as usize,
+                items: items as usize,
+                nodes: nodes as usize,
+                projects: projects as usize,
+                largest_counter: counter as usize,
+            };
+            setup::make(memory, words, sizes).into()
+        }
+        Call::Register { value, size } => {
+            setup::register(memory, words, value as usize, size as usize).into()
+        }
+        Call::Start { worker, operation } => {
+            model_starts(memory, words, worker as usize, operation)
+        }
+        Call::Step { worker } => stepping::step(memory, words, worker as usize),
+        Call::Abandon { worker } => abandons::abandon(memory, words, worker as usize).into(),
     }
-}
-
-// Code, value and steps.
-fn agree(answer: Answer, reply: Reply) -> bool
-    ensures { result ≡ (answer.code == reply.code && answer.value == reply.value) && (answer.steps == reply.steps) }
-{
-    let code = size_of(answer.code);
-    let steps = size_of(answer.steps);
-    (code == reply.code) & (answer.value == reply.value as u64) & (steps == reply.steps)
 }
 
 // The phase of the worker that a start, a step or an abandon names.
-fn phase_of(words: &[u32], worker: u32) -> u32 {
-    if worker < 64 {
-        let at = HEADER_WORDS + WORKER_WORDS * (worker as usize) + PHASE;
-        if at < words.len() {
-            return words[at];
+fn phase_of(words: &[u32], call: Call) -> u32 {
+    match call {
+        Call::Make { .. } | Call::Register { .. } => 0,
+        Call::Start { worker, .. } | Call::Step { worker } | Call::Abandon { worker } => {
+            let at = HEADER_WORDS + WORKER_WORDS * worker as usize + PHASE;
+            words.get(at).copied().unwrap_or(0)
         }
     }
-    0
-}
-
-// A worker that was in an operation is idle.
-fn note_abandon(tally: &mut [u64], before: u32) {
-    count(tally, ABANDONS);
-    count(tally, place(ABANDONED, before, 36));
 }
 
 // A start that was accepted, or a step that advanced an operation, took the worker from a phase to a phase. An abandon is counted apart.
 fn note_move(tally: &mut [u64], call: Call, answer: &Answer, before: u32, after: u32) {
-    if call.operation < 3 {
+    if 2 < answer.code && answer.steps == 0 {
         return;
     }
-    if 2 < answer.code {
-        if answer.steps == 0 {
-            return;
+    match call {
+        Call::Make { .. } | Call::Register { .. } => (),
+        Call::Start { .. } | Call::Step { .. } => {
+            count(tally, move_place(before, after));
+            count(tally, PHASES.place(after));
+            if answer.code == 0 {
+                raise(tally, LONGEST.place(before), u64::from(answer.steps));
+            }
         }
-    }
-    if call.operation == ABANDON {
-        note_abandon(tally, before);
-        return;
-    }
-    count(tally, move_place(before, after));
-    count(tally, place(PHASES, after, 36));
-    if answer.code == 0 {
-        raise(tally, place(LONGEST, before, 36), answer.steps as u64);
+        Call::Abandon { .. } => {
+            count(tally, ABANDONS);
+            count(tally, ABANDONED.place(before));
+        }
     }
 }
 
 fn note_answer(tally: &mut [u64], call: Call, code: u32) {
     count(tally, COMPARED);
     if 16 < code {
-        count(tally, place(REFUSALS, code - 16, 16));
-        return;
-    }
-    if call.operation == 1 {
+        count(tally, REFUSALS.place(code - 16));
+    } else if matches!(call, Call::Make { .. }) {
         count(tally, CATALOGUES);
     }
 }
 
-// The first difference is shown with the calls that lead to it; after any, the catalogue is given up. An answer is its code, value and steps.
-fn note_difference(
-    rt: &impl Print,
-    log: &[u32],
-    tally: &mut [u64],
-    code: [u64; 3],
-    model: [u64; 3],
-) -> io::Result<()> {
-    count(tally, DIFFER);
-    put(tally, LIFE, 0);
-    if get(tally, DIFFER) == 1 {
-        put(tally, FIRST_AT, get(tally, COMPARED));
-        frames::show(rt, log, tally)?;
-        frames::show_answer(rt, b"the code answers  ", code[0], code[1], code[2])?;
-        frames::show_answer(rt, b"the model answers ", model[0], model[1], model[2])?;
+impl Bench {
+    // The first difference is shown with the calls that lead to it; after any, the catalogue is given up.
+    fn note_difference(&mut self, rt: &impl Print, code: Said, model: Said) -> io::Result<()> {
+        count(&mut self.tally, DIFFER);
+        put(&mut self.tally, LIFE, 0);
+        if get(&self.tally, DIFFER) == 1 {
+            let compared = get(&self.tally, COMPARED);
+            put(&mut self.tally, FIRST_AT, compared);
+            frames::show(rt, &self.log, &self.tally)?;
+            println!(rt; "the code answers  {code}")?;
+            println!(rt; "the model answers {model}")?;
+        }
+        Ok(())
     }
-    Ok(())
-}
 
-fn compare(
-    rt: &impl Print,
-    log: &[u32],
-    tally: &mut [u64],
-    call: Call,
-    answer: Answer,
-    reply: Reply,
-) -> io::Result<()> {
-    lower(tally, LIFE);
-    note_answer(tally, call, answer.code);
-    let code = [answer.code as u64, answer.value, answer.steps as u64];
-    let model = [reply.code as u64, reply.value as u64, reply.steps as u64];
-    if agree(answer, reply) {
-        return Ok(());
+    pub fn both(&mut self, rt: &impl Print, lent: Lent) -> io::Result<()> {
+        let call = lent.call;
+        let before = phase_of(&self.words, call);
+        let answer = code_answers(&mut self.words, lent);
+        let after = phase_of(&self.words, call);
+        let model = Said::from(model_answers(&mut self.memory, lent));
+        frames::log_call(&mut self.log, &mut self.tally, lent.numbers());
+        note_move(&mut self.tally, call, &answer, before, after);
+        lower(&mut self.tally, LIFE);
+        note_answer(&mut self.tally, call, answer.code);
+        let code = Said::from(&answer);
+        if agree(code, model) {
+            return Ok(());
+        }
+        self.note_difference(rt, code, model)
     }
-    note_difference(rt, log, tally, code, model)
-}
-
-pub fn both(
-    rt: &impl Print,
-    words: &mut [u32],
-    memory: &mut [usize],
-    log: &mut [u32],
-    tally: &mut [u64],
-    call: Call,
-) -> io::Result<()> {
-    let before = phase_of(words, call.a);
-    let answer = code_answers(words, call);
-    let after = phase_of(words, call.a);
-    let reply = model_answers(memory, call);
-    frames::log_call(log, tally, call);
-    note_move(tally, call, &answer, before, after);
-    compare(rt, log, tally, call, answer, reply)
 }

@@ -7,19 +7,18 @@ mod both;
 mod longest;
 mod play;
 
+use arguments::Arguments;
+use both::{Bench, LOG};
 use model::memory::MEMORY;
 use std::env::Env;
 use std::io;
 use std::io::ErrorKind;
 use std::process::ExitCode;
+use tally::frames::WHOLE;
 use tally::notes::{NOTES, ROUNDS, SEED, STATE, put};
 
 // The status that a shell reports of a filter that nobody reads any more, which SIGPIPE ends.
 const NOBODY_READS: u8 = 141;
-
-const LENT: usize = 16384;
-
-const LOG: usize = 312000;
 
 // A line on standard error, every few seconds of a long run.
 fn tell_progress(rt: &impl Eprint, tally: &[u64], left: u64) {
@@ -28,55 +27,27 @@ fn tell_progress(rt: &impl Eprint, tally: &[u64], left: u64) {
     }
 }
 
-// The calls before any make, the drawn ones, and those of the longest total.
-fn all_calls(
-    rt: &(impl Print + Eprint),
-    words: &mut [u32],
-    memory: &mut [usize],
-    log: &mut [u32],
-    tally: &mut [u64],
-    drawn: u64,
-) -> io::Result<()> {
-    let mut left = play::calls_in_all(drawn);
-    while 0 < left {
-        left -= 1;
-        let call = play::call_at(memory, tally, drawn, left);
-        both::both(rt, words, memory, log, tally, call)?;
-        tell_progress(rt, tally, left);
+// The calls before any make, the drawn ones, and those of the longest total; then the report.
+fn soak(rt: &(impl Print + Eprint), bench: &mut Bench, given: Arguments) -> io::Result<()> {
+    put(&mut bench.tally, SEED, given.seed);
+    put(&mut bench.tally, ROUNDS, given.rounds);
+    put(&mut bench.tally, STATE, given.seed);
+    for left in (0..play::calls_in_all(given.rounds)).rev() {
+        let call = bench.call_at(given.rounds, left);
+        bench.both(rt, call)?;
+        tell_progress(rt, &bench.tally, left);
     }
-    Ok(())
+    tally::report::report(rt, &bench.tally)
 }
 
-fn soak(
-    rt: &(impl Print + Eprint),
-    words: &mut [u32],
-    memory: &mut [usize],
-    log: &mut [u32],
-    tally: &mut [u64],
-    seed: u64,
-    rounds: u64,
-) -> io::Result<()> {
-    put(tally, SEED, seed);
-    put(tally, ROUNDS, rounds);
-    put(tally, STATE, seed);
-    all_calls(rt, words, memory, log, tally, rounds)?;
-    tally::report::report(rt, tally)
-}
-
-fn run(rt: &(impl Print + Eprint), seed: u64, rounds: u64) -> io::Result<()> {
-    let mut words = [0u32; LENT];
-    let mut memory = [0usize; MEMORY];
-    let mut log = [0u32; LOG];
-    let mut tally = [0u64; NOTES];
-    soak(
-        rt,
-        &mut words,
-        &mut memory,
-        &mut log,
-        &mut tally,
-        seed,
-        rounds,
-    )
+fn run(rt: &(impl Print + Eprint), given: Arguments) -> io::Result<()> {
+    let mut bench = Bench {
+        words: [0; WHOLE],
+        memory: [0; MEMORY],
+        log: [0; LOG],
+        tally: [0; NOTES],
+    };
+    soak(rt, &mut bench, given)
 }
 
 // What the arguments ask for. An argument that is refused is answered with the usage on standard error.
@@ -84,12 +55,13 @@ fn run_as_asked(rt: &(impl Env + Print + Eprint)) -> io::Result<()> {
     if arguments::help_asked(rt) {
         return arguments::print_usage(rt);
     }
-    let given = arguments::read(rt);
-    if !given.good {
-        arguments::complain(rt);
-        return Ok(());
+    match arguments::read(rt) {
+        Some(given) => run(rt, given),
+        None => {
+            arguments::complain(rt);
+            Ok(())
+        }
     }
-    run(rt, given.seed, given.rounds)
 }
 
 // Where the report can't be written, a word on standard error says so, but where nobody reads it: then soak ends as any filter does, and says nothing.

@@ -1,34 +1,18 @@
 // Document 01's generator, whose number stands in the notes.
-ghost use Rattle.std.specs.Prelude.{◌≡◌};
+ghost use Rattle.std.specs.Prelude.{◌≡◌, ◌%◌, ◌^◌};
 
 use crate::notes::{STATE, get, put};
 
-pub fn wide(x: u32) -> u64 {
-    x as u64
-}
-
-pub fn low(x: u64) -> u32 {
-    (x % 4294967296) as u32
-}
-
-// A number of the model's, as an argument of a call.
-pub fn narrow(x: usize) -> u32 {
-    (x % 4294967296) as u32
-}
-
-pub fn size_of(x: u32) -> usize
-    ensures { result ≡ x }
+// A number of the notes or the model, cut to 32 bits: the library has no cast that cuts.
+pub fn narrow(x: usize) -> u32
+    ensures { result ≡ x % 2 ^ 32 }
 {
-    x as usize
-}
-
-pub fn more(x: u32, y: u32) -> u32 {
-    std::num::wrapping_add_u32(x, y)
+    (x & 0xffff_ffff) as u32
 }
 
 fn advance(tally: &mut [u64]) -> u32 {
-    let x = random::next(low(get(tally, STATE)));
-    put(tally, STATE, wide(x));
+    let x = random::next(narrow(get(tally, STATE) as usize));
+    put(tally, STATE, u64::from(x));
     x
 }
 
@@ -44,7 +28,7 @@ pub fn among(tally: &mut [u64], some: u32) -> u32 {
 
 // 1 to some.
 pub fn from_one(tally: &mut [u64], some: u32) -> u32 {
-    more(among(tally, some), 1)
+    among(tally, some).wrapping_add(1)
 }
 
 // Whether something happens that happens one time in some.
@@ -55,6 +39,5 @@ pub fn once_in(tally: &mut [u64], some: u32) -> bool {
 // A draw of 32 bits.
 pub fn wide_draw(tally: &mut [u64]) -> u32 {
     let high = draw(tally);
-    let lower = draw(tally);
-    random::wrapping_mul(high, 65536) | lower
+    (high << 16) | draw(tally)
 }

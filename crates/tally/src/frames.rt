@@ -1,162 +1,243 @@
-// The log of the calls since the last make, and its frames, as the schedule program reads them.
+// The calls, and the log of those since the last make, which is shown as frames, as the schedule program reads them.
+ghost use Rattle.std.specs.Prelude.{◌≡◌, ◌<◌, ◌≤◌};
+ghost use Rattle.tally.specs.declared.frames.Call.TheVariants.{Make};
+
 use crate::notes::{LOGGED, count, get};
-use std::io;
+use std::{fmt, io};
 
-// An abandon stands among the operations, though the schedule program has no frame for it.
-pub const ABANDON: u32 = 9;
-
-// A call by its frame's operation, 1 to 8, or as an abandon, and its arguments, with how many words are lent to it.
+// What a worker can start.
 #[derive(Clone, Copy)]
-pub struct Call {
-    pub operation: u32,
-    pub a: u32,
-    pub b: u32,
-    pub c: u32,
-    pub d: u32,
-    pub e: u32,
-    pub lent: usize,
+pub enum Operation {
+    VRead { item: u32 },
+    VCas { item: u32, old: u32, new: u32 },
+    TakeSnapshot,
+    ReadSnapshot { item: u32, handle: u32 },
+    Total { project: u32, handle: u32 },
 }
 
-pub fn call_of(operation: u32, a: u32, b: u32, c: u32, d: u32) -> Call {
-    Call {
-        operation,
-        a,
-        b,
-        c,
-        d,
-        e: 0,
-        lent: 16384,
+#[derive(Clone, Copy)]
+pub enum Call {
+    Make {
+        workers: u32,
+        items: u32,
+        nodes: u32,
+        projects: u32,
+        counter: u32,
+    },
+    Register {
+        value: u32,
+        size: u32,
+    },
+    Start {
+        worker: u32,
+        operation: Operation,
+    },
+    Step {
+        worker: u32,
+    },
+    Abandon {
+        worker: u32,
+    },
+}
+
+pub fn make_of(workers: u32, items: u32, nodes: u32, projects: u32, counter: u32) -> Call
+    ensures { result ≡ Make workers items nodes projects counter }
+{
+    Call::Make {
+        workers,
+        items,
+        nodes,
+        projects,
+        counter,
     }
 }
 
-pub fn make_of(workers: u32, items: u32, nodes: u32, projects: u32, counter: u32) -> Call {
-    Call {
-        operation: 1,
-        a: workers,
-        b: items,
-        c: nodes,
-        d: projects,
-        e: counter,
-        lent: 16384,
-    }
-}
+// For the log: the first number of a call's frame, 9 for an abandon, and five arguments.
+impl Call {
+    ghost use Rattle.tally.specs.Log.{call_of};
 
-// How many calls the log holds.
-pub const MOST: u64 = 52000;
-
-fn keep(log: &mut [u32], at: usize, number: u32) {
-    if at < log.len() {
-        log[at] = number;
-    }
-}
-
-fn kept(log: &[u32], at: usize) -> u32 {
-    if at < log.len() {
-        return log[at];
-    }
-    0
-}
-
-fn entry(number: u64, field: usize) -> usize {
-    if number < MOST {
-        if field < 6 {
-            return 6 * (number as usize) + field;
+    fn numbers(self) -> (u32, [u32; 5])
+        ensures back { call_of result.0 result.1 ≡ self }
+        ensures small { result.0 < 16 }
+    {
+        match self {
+            Call::Make {
+                workers,
+                items,
+                nodes,
+                projects,
+                counter,
+            } => (1, [workers, items, nodes, projects, counter]),
+            Call::Register { value, size } => (2, [value, size, 0, 0, 0]),
+            Call::Start { worker, operation } => operation.numbers(worker),
+            Call::Step { worker } => (8, [worker, 0, 0, 0, 0]),
+            Call::Abandon { worker } => (9, [worker, 0, 0, 0, 0]),
         }
     }
-    usize::MAX
+
+    // The way back. What is no call's number is read as an abandon's.
+    fn of(first: u32, arguments: [u32; 5]) -> Call
+        ensures { result ≡ call_of first arguments }
+    {
+        let [worker, b, c, d, e] = arguments;
+        let operation = match first {
+            1 => return make_of(worker, b, c, d, e),
+            2 => return Call::Register {
+                value: worker,
+                size: b,
+            },
+            3 => Operation::VRead { item: b },
+            4 => Operation::VCas {
+                item: b,
+                old: c,
+                new: d,
+            },
+            5 => Operation::TakeSnapshot,
+            6 => Operation::ReadSnapshot { item: b, handle: c },
+            7 => Operation::Total {
+                project: b,
+                handle: c,
+            },
+            8 => return Call::Step { worker },
+            _ => return Call::Abandon { worker },
+        };
+        Call::Start { worker, operation }
+    }
 }
 
-// The operation and the lent words share a number.
-fn both_in_one(operation: u32, lent: usize) -> u32 {
-    if operation < 16 {
-        if lent < 20000 {
-            return (lent as u32) * 16 + operation;
+impl Operation {
+    ghost use Rattle.tally.specs.Log.{call_of};
+    ghost use Rattle.tally.specs.declared.frames.Call.TheVariants.{Start};
+
+    fn numbers(self, worker: u32) -> (u32, [u32; 5])
+        ensures back { call_of result.0 result.1 ≡ Start worker self }
+        ensures small { result.0 < 16 }
+    {
+        match self {
+            Operation::VRead { item } => (3, [worker, item, 0, 0, 0]),
+            Operation::VCas { item, old, new } => (4, [worker, item, old, new, 0]),
+            Operation::TakeSnapshot => (5, [worker, 0, 0, 0, 0]),
+            Operation::ReadSnapshot { item, handle } => (6, [worker, item, handle, 0, 0]),
+            Operation::Total { project, handle } => (7, [worker, project, handle, 0, 0]),
         }
     }
-    operation
 }
 
-pub fn log_call(log: &mut [u32], tally: &mut [u64], call: Call) {
-    let number = get(tally, LOGGED);
-    keep(
-        log,
-        entry(number, 0),
-        both_in_one(call.operation, call.lent),
-    );
-    keep(log, entry(number, 1), call.a);
-    keep(log, entry(number, 2), call.b);
-    keep(log, entry(number, 3), call.c);
-    keep(log, entry(number, 4), call.d);
-    keep(log, entry(number, 5), call.e);
-    count(tally, LOGGED);
+// Its frame. There is none for an abandon, which is shown by its name.
+impl fmt::Display for Call {
+    fn fmt<W: fmt::Write>(&self, f: &mut fmt::Formatter<W>) -> fmt::Result {
+        match *self {
+            Call::Make {
+                workers,
+                items,
+                nodes,
+                projects,
+                counter,
+            } => write!(
+                f,
+                "01{workers:04x}{items:04x}{nodes:04x}{projects:04x}{counter:04x}"
+            ),
+            Call::Register { value, size } => write!(f, "02{value:04x}{size:04x}"),
+            Call::Start { worker, operation } => show_start(f, worker, operation),
+            Call::Step { worker } => write!(f, "08{worker:04x}"),
+            Call::Abandon { worker } => write!(f, "abandon {worker:04x}"),
+        }
+    }
 }
 
-// How many numbers an operation's frame has, its operation among them.
-fn numbers_of(operation: u32) -> usize {
+fn show_start<W: fmt::Write>(
+    f: &mut fmt::Formatter<W>,
+    worker: u32,
+    operation: Operation,
+) -> fmt::Result {
     match operation {
-        1 => 6,
-        2 => 3,
-        3 => 3,
-        4 => 5,
-        5 => 2,
-        6 => 4,
-        7 => 4,
-        _ => 2,
+        Operation::VRead { item } => write!(f, "03{worker:04x}{item:04x}"),
+        Operation::VCas { item, old, new } => {
+            write!(f, "04{worker:04x}{item:04x}{old:04x}{new:04x}")
+        }
+        Operation::TakeSnapshot => write!(f, "05{worker:04x}"),
+        Operation::ReadSnapshot { item, handle } => {
+            write!(f, "06{worker:04x}{item:04x}{handle:04x}")
+        }
+        Operation::Total { project, handle } => {
+            write!(f, "07{worker:04x}{project:04x}{handle:04x}")
+        }
     }
 }
 
-fn show_argument(rt: &impl Print, log: &[u32], number: u64, which: usize) -> io::Result<()> {
-    let argument = kept(log, entry(number, which));
-    print!(rt; "{argument:04x}")
+// As many words as the schedule program lends.
+pub const WHOLE: usize = 16384;
+
+// A call, and how many words are lent to it.
+#[derive(Clone, Copy)]
+pub struct Lent {
+    pub call: Call,
+    pub words: usize,
 }
 
-fn show_arguments(rt: &impl Print, log: &[u32], number: u64, some: usize) -> io::Result<()> {
-    let mut which: usize = 1;
-    while which < some {
-        show_argument(rt, log, number, which)?;
-        which += 1;
+impl From<Call> for Lent {
+    ghost use Rattle.tally.specs.declared.frames.TheConstants.{WHOLE};
+
+    ghost from_gives = { λ call lent. lent ≡ record { call = call; words = WHOLE } };
+
+    fn from(call: Call) -> Lent {
+        Lent { call, words: WHOLE }
     }
-    Ok(())
 }
 
-fn show_operation(rt: &impl Print, operation: u32) -> io::Result<()> {
-    if operation == ABANDON {
-        return print!(rt; "abandon ");
+// For the log, where a call's first number and the lent words share one.
+impl Lent {
+    ghost use Rattle.tally.specs.Log.{lent_of};
+    ghost use Rattle.tally.specs.declared.frames.TheConstants.{WHOLE};
+
+    pub fn numbers(self) -> [u32; 6]
+        ensures { self.words ≤ WHOLE → lent_of result ≡ self }
+    {
+        let words = self.words.min(WHOLE) as u32;
+        let (first, [a, b, c, d, e]) = self.call.numbers();
+        [words * 16 + first, a, b, c, d, e]
     }
-    print!(rt; "{operation:02x}")
+
+    fn of(numbers: [u32; 6]) -> Lent
+        ensures { result ≡ lent_of numbers }
+    {
+        let [first, a, b, c, d, e] = numbers;
+        Lent {
+            call: Call::of(first % 16, [a, b, c, d, e]),
+            words: (first / 16) as usize,
+        }
+    }
 }
 
-// A frame, or an abandon; what no frame can say, fewer words lent than the schedule program lends, stands behind it.
-fn show_frame(rt: &impl Print, log: &[u32], number: u64) -> io::Result<()> {
-    let first = kept(log, entry(number, 0));
-    let operation = first % 16;
-    show_operation(rt, operation)?;
-    show_arguments(rt, log, number, numbers_of(operation))?;
-    if first / 16 < 16384 {
-        print!(rt; " words lent: {}", first / 16)?;
+// What no frame can say, fewer words lent than the schedule program lends, stands behind it.
+impl fmt::Display for Lent {
+    fn fmt<W: fmt::Write>(&self, f: &mut fmt::Formatter<W>) -> fmt::Result {
+        let call = self.call;
+        let words = self.words;
+        if words < WHOLE {
+            return write!(f, "{call} words lent: {words}");
+        }
+        write!(f, "{call}")
     }
-    println!(rt;)
+}
+
+// Logs a call by its numbers. One that the log has no room for is counted all the same.
+pub fn log_call(log: &mut [u32], tally: &mut [u64], call: [u32; 6]) {
+    let number = get(tally, LOGGED);
+    let (calls, _) = log.as_chunks_mut::<6>();
+    if let Some(entry) = calls.get_mut(number as usize) {
+        *entry = call;
+    }
+    count(tally, LOGGED);
 }
 
 // Every call of the log, the one that differs last.
 pub fn show(rt: &impl Print, log: &[u32], tally: &[u64]) -> io::Result<()> {
     println!(rt; "a difference; the calls that lead to it, as frames:")?;
-    let all = get(tally, LOGGED);
-    let mut number: u64 = 0;
-    while number < all {
-        show_frame(rt, log, number)?;
-        number += 1;
+    let (calls, _) = log.as_chunks::<6>();
+    for numbers in calls.iter().take(get(tally, LOGGED) as usize) {
+        let call = Lent::of(*numbers);
+        println!(rt; "{call}")?;
     }
     Ok(())
-}
-
-pub fn show_answer(
-    rt: &impl Print,
-    who: &[u8],
-    code: u64,
-    value: u64,
-    steps: u64,
-) -> io::Result<()> {
-    rt.write_all(who)?;
-    println!(rt; "{code:02x}{value:016x}{steps:04x}")
 }
