@@ -1,2 +1,1 @@
 pub mod Abandoned
-pub mod ByPhase

@@ -10,58 +10,62 @@ ghost use Rattle.definitions.specs.Lines.{returning, returned_node};
 ghost use Rattle.definitions.specs.Calls.{outcome, abandoning};
 ghost use Rattle.definitions.specs.Calls.Call.{abandon};
 ghost use Rattle.definitions.specs.Promises.{Met, Done};
+ghost use Rattle.tables.specs.Ranges.{HasRecord};
+ghost use Rattle.endings.specs.Ended.{answered};
 ghost use Rattle.endings.specs.Stepped.{CanReturn};
 ghost use Rattle.facts.specs.Facts.{Header};
 
 use crate::record::{holds_node, record_is_damaged};
 use change::{give_back, returned_is_damaged};
 use definitions::Answer;
-use endings::{accept, refuse, write_record};
+use endings::accept;
+use endings::reason::{Reason, answer_of, refuse};
+use endings::record::{IDLE, write_record};
 use tables::damage::header_is_damaged;
 use tables::fields::{HEADER_WORDS, ITEM_WORDS, ITEMS_LIMIT, PHASE, WORKER_WORDS, WORKERS};
 use tables::phases::CLOSING_PHASE;
 
 // The worker is idle.
 fn clear(words: &mut [u32], w: usize) -> Answer
-    requires { 16 + 16 * w + 16 ≤ length words.old }
+    requires { HasRecord w words.old }
     ensures { (result ≡ accepted 0) × (words.new ≡ written 0 0 words.old (cleared w)) }
 {
-    write_record(words, w, 0, 0, 0, 0, 0, 0, 0);
+    write_record(words, w, IDLE);
     accept(0)
 }
 
 // Abandon of a worker that holds a node: where its words are damaged, nothing changes.
-fn abandon_holding(words: &mut [u32], nodes_at: usize, w: usize) -> Answer
+fn abandon_holding(words: &mut [u32], nodes_at: usize, w: usize) -> Result<Answer, Reason>
     requires { CanReturn nodes_at w words.old }
     ensures { (a : ℕ) → Met a nodes_at words.old
         (unless (returned_node (cells_at a nodes_at words.old) w ⇒ 2 ∷ []) (accepts 0 (returning (cells_at a nodes_at words.old) w ++ cleared w)))
-        result words.new }
+        (answered result) words.new }
 {
     if returned_is_damaged(words, nodes_at, w) {
-        return refuse(2);
+        return Err(Reason::Damaged);
     }
     give_back(words, nodes_at, w);
-    clear(words, w)
+    Ok(clear(words, w))
 }
 
 // Abandon where the header is not damaged.
-fn abandon_sound(words: &mut [u32], worker: u32) -> Answer
+fn abandon_sound(words: &mut [u32], worker: u32) -> Result<Answer, Reason>
     requires { Header words.old }
-    ensures { Met (items_offset words.old) (nodes_offset words.old) words.old (abandoning (cells_of words.old) worker) result words.new }
+    ensures { Met (items_offset words.old) (nodes_offset words.old) words.old (abandoning (cells_of words.old) worker) (answered result) words.new }
 {
     if words[WORKERS] <= worker {
-        return refuse(3);
+        return Err(Reason::NoWorker);
     }
     let w = worker as usize;
     let phase = words[HEADER_WORDS + WORKER_WORDS * w + PHASE];
     if CLOSING_PHASE < phase {
-        return refuse(2);
+        return Err(Reason::Damaged);
     }
     if phase == 0 {
-        return refuse(5);
+        return Err(Reason::Idle);
     }
     if record_is_damaged(words, w, phase) {
-        return refuse(2);
+        return Err(Reason::Damaged);
     }
     if holds_node(phase) {
         let nodes_at = HEADER_WORDS
@@ -69,7 +73,7 @@ fn abandon_sound(words: &mut [u32], worker: u32) -> Answer
             + ITEM_WORDS * (words[ITEMS_LIMIT] as usize);
         return abandon_holding(words, nodes_at, w);
     }
-    clear(words, w)
+    Ok(clear(words, w))
 }
 
 // Abandon of a worker, on any words.
@@ -77,7 +81,7 @@ pub fn abandon(words: &mut [u32], worker: u32) -> Answer
     ensures { Done (outcome words.old (abandon worker)) result words.new }
 {
     if header_is_damaged(words) {
-        return refuse(2);
+        return refuse(Reason::Damaged);
     }
-    abandon_sound(words, worker)
+    answer_of(abandon_sound(words, worker))
 }

@@ -1,46 +1,52 @@
--- What the starts know once their first refusals did not hold.
-use Rattle.std.specs.Prelude.{ℕ, ◌<◌, ◌≡◌, refl, Bool, true, false, cond, not, ◌||◌, ◌&&◌, ltb, eqb, get_or, List}
-use Rattle.std.proofs.Common.{ap, sym, ◌∙◌, leb-false, eqb-true, ne_eqb}
-use Rattle.std.proofs.lemmas.Bool.{false≢true}
+-- What a start comes to: it is refused, or the record that it writes for its worker.
+use Rattle.std.specs.Prelude.{ℕ, ◌+◌, ◌*◌, ◌<◌, ◌≤◌, ◌≡◌, ⊤, Ok, Err, None, Some, List, ◌++◌, get_or, length}
+use Rattle.std.specs.Prelude.{Result as Tested}
+use Rattle.std.proofs.Common.{ap, leb-false, arith}
 use Rattle.definitions.specs.Cells.{cells_of}
-use Rattle.definitions.specs.Calls.{sound_item}
+use Rattle.definitions.specs.Answers.{Outcome, Refusal, unless, refused, accepts}
+use Rattle.definitions.specs.Calls.{Call, Result, leaving, outcome, sound_item}
+use Rattle.endings.specs.declared.reason.Reason.{Reason}
+use Rattle.endings.specs.declared.record.Record.{Record}
+use Rattle.endings.specs.Ended.{number_of, assigned}
 use Rattle.facts.specs.Facts.{Header, header_sound}
-use Rattle.facts.specs.Refusals.{first_of, first_none, worker_refusals}
+use Rattle.facts.specs.Refusals.{first_of, first_none, unless_none, unless_first, worker_refusals}
 
--- A number is the first of a chain: here, or later.
-pub here : {t : Bool} {n : ℕ} (k : ℕ) → t ≡ true → n ≡ cond t n k
-here k e = rw e
+abbrev pub begun : ℕ → Tested Record Reason → Outcome
+begun w (Ok fields) = accepts 0 (assigned w fields)
+begun w (Err r) = refused (number_of r)
 
-pub later : {t : Bool} {n k : ℕ} (x : ℕ) → t ≡ false → n ≡ k → n ≡ cond t x k
-later x e f = rw (e, f)
+-- A record that is to be written has its place.
+abbrev pub HasRoom : List ℕ → ℕ → Tested Record Reason → Type 0
+HasRoom ws w (Ok fields) = 16 + 16 * w + 16 ≤ length ws
+HasRoom ws w (Err r) = ⊤
 
-pub header_there : (ws : List ℕ) (w : ℕ) {n : ℕ} → n ≡ first_of (worker_refusals ws w) → n ≡ 0 → Header ws
-header_there ws w e z = header_sound ws (first_none (worker_refusals ws w) 0 refl (sym e ∙ z))
+-- What the tests of a start came to is what the call comes to.
+abbrev pub Begins : List ℕ → ℕ → Call → Tested Record Reason → Type 0
+Begins ws w call tested = (outcome ws call ≡ leaving ws (begun w tested)) × HasRoom ws w tested
 
-pub worker_there : (ws : List ℕ) (w : ℕ) {n : ℕ} → n ≡ first_of (worker_refusals ws w) → n ≡ 0 → w < get_or ws 0 0
-worker_there ws w e z = leb-false (get_or ws 0 0) w (first_none (worker_refusals ws w) 1 refl (sym e ∙ z))
+-- What is known once the first refusals did not hold.
+module _ (ws : List ℕ) (w : ℕ) (e : first_of (worker_refusals ws w) ≡ None) where
+  pub header_there : Header ws
+  header_there = header_sound ws (first_none (worker_refusals ws w) 0 e)
 
-pub registered_item : (ws : List ℕ) (i : ℕ) {n : ℕ} → n ≡ first_of (sound_item (cells_of ws) i) → n ≡ 0 → i < get_or ws 6 0
-registered_item ws i e z = leb-false (get_or ws 6 0) i (first_none (sound_item (cells_of ws) i) 0 refl (sym e ∙ z))
+  pub worker_there : w < get_or ws 0 0
+  worker_there = leb-false (get_or ws 0 0) w (first_none (worker_refusals ws w) 1 e)
 
-not_false : (t : Bool) → not t ≡ false → t ≡ true
-not_false true e = refl
-not_false false e = sym e
+  pub has_room : 16 + 16 * w + 16 ≤ length ws
+  has_room = omega (arith, header_there, worker_there)
 
--- A start asks first whether some refusal holds: where none does the first is 0, and where one does it is not.
-pub free : {r : Bool} {f : ℕ} → r ≡ not (eqb f 0) → r ≡ false → f ≡ 0
-free {r} {f} e h = eqb-true f 0 (not_false (eqb f 0) (sym e ∙ h))
+pub registered_item : (ws : List ℕ) (i : ℕ) → first_of (sound_item (cells_of ws) i) ≡ None → i < get_or ws 6 0
+registered_item ws i e = leb-false (get_or ws 6 0) i (first_none (sound_item (cells_of ws) i) 0 e)
 
-pub held : {r : Bool} {f n : ℕ} → r ≡ not (eqb f 0) → r ≡ true → n ≡ f → n ≡ 0 → ⊥
-held {r} {f} {n} e h g z = false≢true (sym (ap (λ (k : ℕ). not (eqb k 0)) (sym g ∙ z)) ∙ sym e ∙ h)
+-- Where a chain refuses, the start is refused for that.
+pub refused_for : {ws : List ℕ} (w : ℕ) {comes : Result} {tested : Tested Record Reason} {r : Reason}
+    → (y : Reason) × (tested ≡ Err y) × (y ≡ r) → comes ≡ leaving ws (refused (number_of r)) → (comes ≡ leaving ws (begun w tested)) × HasRoom ws w tested
+refused_for w p e = rw (p.1, p.2) (e, tt)
 
--- A busy worker is refused with 2 or 4, and an idle one is not refused.
-two_or_four : (t : Bool) → true ≡ not (eqb (cond t 2 4) 0)
-two_or_four true = refl
-two_or_four false = refl
+-- A chain that stops a start, and one that lets it go on to the rest.
+module _ (ws : List ℕ) (rs rest : List Refusal) (o : Outcome) where
+  pub stopped : {n : ℕ} → first_of rs ≡ Some n → leaving ws (unless (rs ++ rest) o) ≡ leaving ws (refused n)
+  stopped e = ap (leaving ws) (unless_first rs rest o e)
 
-pub busy_held : (p : ℕ) (t : Bool) → (p ≡ 0 → ⊥) → true ≡ not (eqb (cond (ltb 35 p || (not (eqb p 0) && t)) 2 (cond (not (eqb p 0)) 4 0)) 0)
-busy_held p t h = rw (ne_eqb p 0 h) (two_or_four (ltb 35 p || t))
-
-pub idle_free : (p : ℕ) (t : Bool) → p ≡ 0 → false ≡ not (eqb (cond (ltb 35 p || (not (eqb p 0) && t)) 2 (cond (not (eqb p 0)) 4 0)) 0)
-idle_free p t h = rw h refl
+  pub passed : first_of rs ≡ None → leaving ws (unless (rs ++ rest) o) ≡ leaving ws (unless rest o)
+  passed e = ap (leaving ws) (unless_none rs rest o e)

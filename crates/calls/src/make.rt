@@ -1,25 +1,14 @@
 // Make: every needed word is set, the unused ones to zero; words past them are never touched.
-ghost use Rattle.std.specs.Prelude.{◌≡◌, ◌++◌, ◌≤◌, length, replicate, drop};
+ghost use Rattle.std.specs.Prelude.{◌≡◌};
 ghost use Rattle.definitions.specs.Calls.{outcome};
 ghost use Rattle.definitions.specs.Calls.Call.{make};
 ghost use Rattle.definitions.specs.Promises.{Done};
 
 use definitions::Answer;
-use endings::refuse;
-use tables::damage::{sizes_beyond, words_needed};
+use endings::accept;
+use endings::reason::{Reason, refuse};
 use tables::fields::{COUNTER_LIMIT, ITEMS_LIMIT, NODES_LIMIT, PROJECTS, WORKERS};
-
-// The first n words are set to zero.
-fn clear(words: &mut [u32], n: usize)
-    requires { n ≤ length words.old }
-    ensures { words.new ≡ replicate n 0 ++ drop n words.old }
-{
-    let mut i: usize = 0;
-    while i < n {
-        words[i] = 0;
-        i += 1;
-    }
-}
+use tables::sizes::{Sizes, sizes_beyond, words_needed};
 
 pub fn make(
     words: &mut [u32],
@@ -31,24 +20,25 @@ pub fn make(
 ) -> Answer
     ensures { Done (outcome words.old (make workers items nodes projects counter)) result words.new }
 {
-    if sizes_beyond(workers, items, nodes, projects, counter) {
-        return refuse(1);
+    let sizes = Sizes {
+        workers,
+        items,
+        nodes,
+        projects,
+        counter,
+    };
+    if sizes_beyond(sizes) {
+        return refuse(Reason::SizesOutside);
     }
-    let needed = words_needed(workers, items, nodes);
+    let needed = words_needed(sizes);
     if (words.len() as u64) < needed {
-        return refuse(1);
+        return refuse(Reason::SizesOutside);
     }
-    clear(words, needed as usize);
+    words[..needed as usize].fill(0);
     words[WORKERS] = workers;
     words[ITEMS_LIMIT] = items;
     words[NODES_LIMIT] = nodes;
     words[PROJECTS] = projects;
     words[COUNTER_LIMIT] = counter;
-    Answer {
-        code: 2,
-        value: 0,
-        steps: 0,
-        stamped: 0,
-        operator: 0,
-    }
+    accept(0)
 }

@@ -4,11 +4,13 @@ ghost use Rattle.definitions.specs.Cells.{cells_of, items_offset, nodes_offset};
 ghost use Rattle.definitions.specs.Calls.{outcome, registering, registered};
 ghost use Rattle.definitions.specs.Calls.Call.{register};
 ghost use Rattle.definitions.specs.Promises.{Met, Done};
+ghost use Rattle.endings.specs.Ended.{answered};
 ghost use Rattle.endings.specs.Stepped.{CanTake};
 ghost use Rattle.facts.specs.Facts.{Header};
 
 use definitions::Answer;
-use endings::refuse;
+use endings::accept;
+use endings::reason::{Reason, answer_of, refuse};
 use tables::damage::{first_is_damaged, header_is_damaged};
 use tables::fields::{
     BIRTH, COUNTER, HEAD, HEADER_WORDS, ITEM_WORDS, ITEMS, ITEMS_LIMIT, PROJECTS, SIZE,
@@ -34,36 +36,30 @@ fn register_taking(words: &mut [u32], value: u32, size: u32) -> Answer
     words[at + BIRTH] = counter;
     words[at + SIZE] = size;
     words[ITEMS] = item + 1;
-    Answer {
-        code: 2,
-        value: item as u64,
-        steps: 0,
-        stamped: 0,
-        operator: 0,
-    }
+    accept(item as u64)
 }
 
 // Register where the header is not damaged: the refusals, then the item. No word of a node never used is tested: register has no line that reads or writes one.
-fn register_sound(words: &mut [u32], value: u32, size: u32) -> Answer
+fn register_sound(words: &mut [u32], value: u32, size: u32) -> Result<Answer, Reason>
     requires { Header words.old }
-    ensures { Met (items_offset words.old) (nodes_offset words.old) words.old (registering (cells_of words.old) value size) result words.new }
+    ensures { Met (items_offset words.old) (nodes_offset words.old) words.old (registering (cells_of words.old) value size) (answered result) words.new }
 {
     if words[PROJECTS] <= value {
-        return refuse(7);
+        return Err(Reason::NoProject);
     }
     if words[ITEMS_LIMIT] <= words[ITEMS] {
-        return refuse(10);
+        return Err(Reason::ItemsFull);
     }
     if none_left(words) {
-        return refuse(11);
+        return Err(Reason::NodesFull);
     }
     let nodes_at = HEADER_WORDS
         + WORKER_WORDS * (words[WORKERS] as usize)
         + ITEM_WORDS * (words[ITEMS_LIMIT] as usize);
     if first_is_damaged(words, nodes_at) {
-        return refuse(2);
+        return Err(Reason::Damaged);
     }
-    register_taking(words, value, size)
+    Ok(register_taking(words, value, size))
 }
 
 // Register, on any words.
@@ -71,7 +67,7 @@ pub fn register(words: &mut [u32], value: u32, size: u32) -> Answer
     ensures { Done (outcome words.old (register value size)) result words.new }
 {
     if header_is_damaged(words) {
-        return refuse(2);
+        return refuse(Reason::Damaged);
     }
-    register_sound(words, value, size)
+    answer_of(register_sound(words, value, size))
 }

@@ -3,6 +3,7 @@
 // the answer's four numbers: the value, the steps, and two zeros.
 #![tactic(auto)]
 
+ghost use Rattle.std.specs.Prelude.{[], ◌∷◌, ◌≡◌};
 ghost use Rattle.definitions.specs.Calls.{outcome, Call};
 ghost use Rattle.definitions.specs.Promises.{Told};
 
@@ -12,7 +13,16 @@ use calls::register::register;
 use calls::start::{
     start_read_snapshot, start_take_snapshot, start_total, start_vcas, start_vread,
 };
+use definitions::Answer;
 use steps::step;
+
+// What a call answered, in the numbers of the C interface.
+fn tell(a: Answer, answer: &mut [u64; 4]) -> u32
+    ensures { (result ≡ a.code) × (answer.new ≡ a.value ∷ a.steps ∷ 0 ∷ 0 ∷ []) }
+{
+    *answer = [a.value, a.steps as u64, 0, 0];
+    a.code
+}
 
 #[unsafe(no_mangle)]
 pub extern "C" fn goravesha_make(
@@ -26,9 +36,10 @@ pub extern "C" fn goravesha_make(
 ) -> u32
     ensures { Told (outcome words.old (Call.make workers items nodes projects counter)) result answer.new words.new }
 {
-    let a = make(words, workers, items, nodes, projects, counter);
-    *answer = [a.value, a.steps as u64, 0, 0];
-    a.code
+    tell(
+        make(words, workers, items, nodes, projects, counter),
+        answer,
+    )
 }
 
 #[unsafe(no_mangle)]
@@ -40,9 +51,7 @@ pub extern "C" fn goravesha_register(
 ) -> u32
     ensures { Told (outcome words.old (Call.register value size)) result answer.new words.new }
 {
-    let a = register(words, value, size);
-    *answer = [a.value, a.steps as u64, 0, 0];
-    a.code
+    tell(register(words, value, size), answer)
 }
 
 #[unsafe(no_mangle)]
@@ -54,9 +63,7 @@ pub extern "C" fn goravesha_start_vread(
 ) -> u32
     ensures { Told (outcome words.old (Call.v_read worker item)) result answer.new words.new }
 {
-    let a = start_vread(words, worker, item);
-    *answer = [a.value, a.steps as u64, 0, 0];
-    a.code
+    tell(start_vread(words, worker, item), answer)
 }
 
 #[unsafe(no_mangle)]
@@ -70,9 +77,7 @@ pub extern "C" fn goravesha_start_vcas(
 ) -> u32
     ensures { Told (outcome words.old (Call.v_cas worker item old new)) result answer.new words.new }
 {
-    let a = start_vcas(words, worker, item, old, new);
-    *answer = [a.value, a.steps as u64, 0, 0];
-    a.code
+    tell(start_vcas(words, worker, item, old, new), answer)
 }
 
 #[unsafe(no_mangle)]
@@ -83,9 +88,7 @@ pub extern "C" fn goravesha_start_take_snapshot(
 ) -> u32
     ensures { Told (outcome words.old (Call.take_snapshot worker)) result answer.new words.new }
 {
-    let a = start_take_snapshot(words, worker);
-    *answer = [a.value, a.steps as u64, 0, 0];
-    a.code
+    tell(start_take_snapshot(words, worker), answer)
 }
 
 #[unsafe(no_mangle)]
@@ -98,9 +101,7 @@ pub extern "C" fn goravesha_start_read_snapshot(
 ) -> u32
     ensures { Told (outcome words.old (Call.read_snapshot worker item handle)) result answer.new words.new }
 {
-    let a = start_read_snapshot(words, worker, item, handle);
-    *answer = [a.value, a.steps as u64, 0, 0];
-    a.code
+    tell(start_read_snapshot(words, worker, item, handle), answer)
 }
 
 #[unsafe(no_mangle)]
@@ -113,25 +114,19 @@ pub extern "C" fn goravesha_start_total(
 ) -> u32
     ensures { Told (outcome words.old (Call.total worker project handle)) result answer.new words.new }
 {
-    let a = start_total(words, worker, project, handle);
-    *answer = [a.value, a.steps as u64, 0, 0];
-    a.code
+    tell(start_total(words, worker, project, handle), answer)
 }
 
 #[unsafe(no_mangle)]
 pub extern "C" fn goravesha_step(words: &mut [u32], worker: u32, answer: &mut [u64; 4]) -> u32
     ensures { Told (outcome words.old (Call.step worker)) result answer.new words.new }
 {
-    let a = step(words, worker);
-    *answer = [a.value, a.steps as u64, 0, 0];
-    a.code
+    tell(step(words, worker), answer)
 }
 
 #[unsafe(no_mangle)]
 pub extern "C" fn goravesha_abandon(words: &mut [u32], worker: u32, answer: &mut [u64; 4]) -> u32
     ensures { Told (outcome words.old (Call.abandon worker)) result answer.new words.new }
 {
-    let a = abandon(words, worker);
-    *answer = [a.value, a.steps as u64, 0, 0];
-    a.code
+    tell(abandon(words, worker), answer)
 }

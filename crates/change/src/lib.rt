@@ -4,66 +4,66 @@
 ghost use Rattle.std.specs.Prelude.{◌≡◌, ℕ};
 ghost use Rattle.definitions.specs.Cells.{cells_at, written};
 ghost use Rattle.definitions.specs.Lines.{line, no_words, its_value, returned_node, returning, line_43, line_46, line_48, line_50, line_52};
-ghost use Rattle.endings.specs.Stepped.{Steps, Ready, InItem, HasNode, HasNewNode, CanReturn};
+ghost use Rattle.endings.specs.Ended.{answered};
+ghost use Rattle.endings.specs.Stepped.{StepsAt, ReadyAt, InItem, HasNode, HasNewNode, CanReturn};
 
 use definitions::Answer;
-use endings::{finish, go_on, refuse};
+use endings::reads::read_value;
+use endings::reason::Reason;
+use endings::site::Site;
+use endings::{finish, go_on};
 use tables::damage::first_is_damaged;
 use tables::fields::{
     GIVEN_BACK, HEAD, HEADER_WORDS, ITEM, ITEM_WORDS, NEW, NEW_NODE, NODE, OLD, OLDER, PHASE,
-    PROJECTS, STEPS, USED, VALUE, WORKER_WORDS,
+    STEPS, USED, WORKER_WORDS,
 };
 use tables::nodes;
 use tables::phases::{LOST, PUBLISHED};
 
 // Lines 43 and 44: another value answers 0; new and old alike answer 1.
-pub fn line_43(words: &mut [u32], items_at: usize, nodes_at: usize, w: usize) -> Answer
-    requires { Ready items_at nodes_at w words.old × HasNode w words.old }
-    ensures { Steps (line its_value line_43) items_at nodes_at w words.old result words.new }
+pub fn line_43(words: &mut [u32], site: Site) -> Result<Answer, Reason>
+    requires { ReadyAt site words.old × HasNode site.worker words.old }
+    ensures { StepsAt (line its_value line_43) site words.old (answered result) words.new }
 {
-    let at = HEADER_WORDS + WORKER_WORDS * w;
+    let at = HEADER_WORDS + WORKER_WORDS * site.worker;
     let phase = words[at + PHASE];
     let steps = words[at + STEPS];
-    let n = words[at + NODE] as usize;
-    let value = nodes::word(&words[nodes_at..], n, VALUE);
-    if words[PROJECTS] <= value {
-        return refuse(2);
-    }
+    let value = read_value(words, site)?;
     if value != words[at + OLD] {
-        return finish(words, w, 0, steps);
+        return Ok(finish(words, site.worker, 0, steps));
     }
     if words[at + NEW] == words[at + OLD] {
-        return finish(words, w, 1, steps);
+        return Ok(finish(words, site.worker, 1, steps));
     }
-    go_on(words, w, phase + 1, steps)
+    Ok(go_on(words, site.worker, phase + 1, steps))
 }
 
 // Line 46: the new node becomes the head, if the head is still the node fetched.
-pub fn line_46(words: &mut [u32], items_at: usize, nodes_at: usize, w: usize) -> Answer
-    requires { Ready items_at nodes_at w words.old × InItem w words.old }
-    ensures { Steps (line no_words line_46) items_at nodes_at w words.old result words.new }
+pub fn line_46(words: &mut [u32], site: Site) -> Answer
+    requires { ReadyAt site words.old × InItem site.worker words.old }
+    ensures { StepsAt (line no_words line_46) site words.old result words.new }
 {
-    let at = HEADER_WORDS + WORKER_WORDS * w;
+    let at = HEADER_WORDS + WORKER_WORDS * site.worker;
     let steps = words[at + STEPS];
     let i = words[at + ITEM] as usize;
-    let head_at = items_at + ITEM_WORDS * i + HEAD;
+    let head_at = site.items_at + ITEM_WORDS * i + HEAD;
     let new_node = words[at + NEW_NODE];
     if words[head_at] == words[at + NODE] {
         words[head_at] = new_node;
         words[at + NODE] = new_node;
-        return go_on(words, w, PUBLISHED, steps);
+        return go_on(words, site.worker, PUBLISHED, steps);
     }
-    go_on(words, w, LOST, steps)
+    go_on(words, site.worker, LOST, steps)
 }
 
 // Line 48: the change is answered 1.
-pub fn line_48(words: &mut [u32], items_at: usize, nodes_at: usize, w: usize) -> Answer
-    requires { Ready items_at nodes_at w words.old }
-    ensures { Steps (line no_words line_48) items_at nodes_at w words.old result words.new }
+pub fn line_48(words: &mut [u32], site: Site) -> Answer
+    requires { ReadyAt site words.old }
+    ensures { StepsAt (line no_words line_48) site words.old result words.new }
 {
-    let at = HEADER_WORDS + WORKER_WORDS * w;
+    let at = HEADER_WORDS + WORKER_WORDS * site.worker;
     let steps = words[at + STEPS];
-    finish(words, w, 1, steps)
+    finish(words, site.worker, 1, steps)
 }
 
 // What giving the new node back uses: its link, and the first node given back.
@@ -93,26 +93,26 @@ pub fn give_back(words: &mut [u32], nodes_at: usize, w: usize)
 }
 
 // Line 50: the new node is given back.
-pub fn line_50(words: &mut [u32], items_at: usize, nodes_at: usize, w: usize) -> Answer
-    requires { Ready items_at nodes_at w words.old × HasNewNode w words.old }
-    ensures { Steps (line returned_node line_50) items_at nodes_at w words.old result words.new }
+pub fn line_50(words: &mut [u32], site: Site) -> Result<Answer, Reason>
+    requires { ReadyAt site words.old × HasNewNode site.worker words.old }
+    ensures { StepsAt (line returned_node line_50) site words.old (answered result) words.new }
 {
-    let at = HEADER_WORDS + WORKER_WORDS * w;
+    let at = HEADER_WORDS + WORKER_WORDS * site.worker;
     let phase = words[at + PHASE];
     let steps = words[at + STEPS];
-    if returned_is_damaged(words, nodes_at, w) {
-        return refuse(2);
+    if returned_is_damaged(words, site.nodes_at, site.worker) {
+        return Err(Reason::Damaged);
     }
-    give_back(words, nodes_at, w);
-    go_on(words, w, phase + 1, steps) // to line 51
+    give_back(words, site.nodes_at, site.worker);
+    Ok(go_on(words, site.worker, phase + 1, steps)) // to line 51
 }
 
 // Line 52: the lost change is answered 0.
-pub fn line_52(words: &mut [u32], items_at: usize, nodes_at: usize, w: usize) -> Answer
-    requires { Ready items_at nodes_at w words.old }
-    ensures { Steps (line no_words line_52) items_at nodes_at w words.old result words.new }
+pub fn line_52(words: &mut [u32], site: Site) -> Answer
+    requires { ReadyAt site words.old }
+    ensures { StepsAt (line no_words line_52) site words.old result words.new }
 {
-    let at = HEADER_WORDS + WORKER_WORDS * w;
+    let at = HEADER_WORDS + WORKER_WORDS * site.worker;
     let steps = words[at + STEPS];
-    finish(words, w, 0, steps)
+    finish(words, site.worker, 0, steps)
 }

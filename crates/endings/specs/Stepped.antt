@@ -6,6 +6,7 @@ use Rattle.definitions.specs.Answers.{Outcome, ◌⇒◌, unless}
 use Rattle.definitions.specs.Damage.{any_of}
 use Rattle.definitions.specs.Lines.{Line}
 use Rattle.definitions.specs.Promises.{Met}
+use Rattle.endings.specs.declared.site.Site.{Site}
 
 -- A line with the damage of its node words before it.
 abbrev pub stepped : Line → Cells → ℕ → Outcome
@@ -14,6 +15,10 @@ stepped l m w = unless (l.damaged m w ⇒ 2 ∷ []) (l.does m w)
 -- A step of worker w does this line: the answer, and every word.
 abbrev pub Steps : Line → (a b w : ℕ) → List ℕ → Answer → List ℕ → Type 0
 Steps l a b w before answer after = Met a b before (stepped l (cells_at a b before) w) answer after
+
+-- The same, of the worker of a site.
+abbrev pub StepsAt : Line → Site → List ℕ → Answer → List ℕ → Type 0
+StepsAt l s = Steps l s.items_at s.nodes_at s.worker
 
 -- The two words that every line that goes on writes last.
 abbrev pub moved_on : List ℕ → (w p n : ℕ) → List ℕ
@@ -30,6 +35,9 @@ pub record Ready (a b w : ℕ) (ws : List ℕ) : Type 0 where
   pub few_items : get_or ws 6 0 ≤ 256
   pub phase : get_or ws (16 + 16 * w + 0) 0 < 36
   pub steps : get_or ws (16 + 16 * w + 1) 0 < 5121
+
+abbrev pub ReadyAt : Site → List ℕ → Type 0
+ReadyAt s = Ready s.items_at s.nodes_at s.worker
 
 -- Its record's item is registered; its node and its new node were used.
 abbrev pub InItem : ℕ → List ℕ → Type 0

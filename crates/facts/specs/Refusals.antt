@@ -1,82 +1,70 @@
--- The first refusal of a chain, by its number, and how a promise goes through a chain and to a call's result.
-use Rattle.std.specs.Prelude.{ℕ, zero, suc, ◌≡◌, refl, Bool, true, false, cond, not, ◌&&◌, List, [], ◌∷◌, ◌++◌, eqb, get_or}
-use Rattle.std.proofs.Common.{ap, sym, ◌∙◌, subst}
-use Rattle.std.proofs.lemmas.Bool.{false≢true}
+-- The first refusal of a chain that holds, and how a promise goes through a chain and to a call's result.
+use Rattle.std.specs.Prelude.{ℕ, zero, suc, ◌≡◌, refl, Bool, true, false, cond, Option, None, Some, Ok, Err, List, [], ◌∷◌, ◌++◌, get_or}
+use Rattle.std.specs.Prelude.{Result as Tested}
+use Rattle.std.proofs.Common.{ap, sym}
+use Rattle.std.proofs.lemmas.Option.{none-some, same_Some}
 use Rattle.definitions.specs.declared.Answer.{Answer}
 use Rattle.definitions.specs.Cells.{items_offset, nodes_offset, cells_of}
 use Rattle.definitions.specs.Answers.{Outcome, Refusal, ◌⇒◌, unless, refused, refusal}
 use Rattle.definitions.specs.Damage.{header_damaged}
 use Rattle.definitions.specs.Calls.{Result, leaving, free_worker}
 use Rattle.definitions.specs.Promises.{Met, Done, Told}
+use Rattle.endings.specs.declared.reason.Reason.{Reason}
+use Rattle.endings.specs.Ended.{number_of}
 
--- The number of the first refusal that holds; 0 where none does.
-abbrev pub first_of : List Refusal → ℕ
-first_of [] = 0
-first_of (r ∷ rs) = cond r.when r.number (first_of rs)
+-- The number of the first refusal that holds, where one does.
+abbrev pub first_of : List Refusal → Option ℕ
+first_of [] = None
+first_of (r ∷ rs) = cond r.when (Some r.number) (first_of rs)
+
+-- A test of a chain passes where none of its refusals holds, and gives the reason of the first that does.
+abbrev pub Passes : {A : Type 0} → List Refusal → Tested A Reason → Type 0
+Passes rs (Ok x) = first_of rs ≡ None
+Passes rs (Err r) = first_of rs ≡ Some (number_of r)
 
 -- What every start tests first.
 abbrev pub worker_refusals : List ℕ → ℕ → List Refusal
 worker_refusals ws w = header_damaged ws ⇒ 2 ∷ free_worker (cells_of ws) w
 
--- No refusal of the chain has the number 0.
-abbrev pub numbered : List Refusal → Bool
-numbered [] = true
-numbered (r ∷ rs) = not (eqb r.number 0) && numbered rs
-
-and_left : (a b : Bool) → (a && b) ≡ true → a ≡ true
-and_left true b e = refl
-and_left false b e = e
-
-and_right : (a b : Bool) → (a && b) ≡ true → b ≡ true
-and_right true b e = e
-and_right false b e = absurd (false≢true e)
-
-number_there : (n : ℕ) {A : Type 0} → not (eqb n 0) ≡ true → n ≡ 0 → A
-number_there n e z = absurd (false≢true (subst (λ (k : ℕ). not (eqb k 0) ≡ true) z e))
-
 -- Where none holds, the rest of the chain decides; else the first that holds.
-past : (t : Bool) (number first : ℕ) (x y : Outcome) → not (eqb number 0) ≡ true → (first ≡ 0 → x ≡ y) → cond t number first ≡ 0 → cond t (refused number) x ≡ y
-past true number first x y n g e = number_there number n e
-past false number first x y n g e = g e
+pub unless_none : (rs rest : List Refusal) (o : Outcome) → first_of rs ≡ None → unless (rs ++ rest) o ≡ unless rest o
+unless_none [] rest o e = refl
+unless_none (r ∷ rs) rest o e = past r.when e (λ h. unless_none rs rest o h)
+  where
+    past : {x y : Outcome} (t : Bool) → cond t (Some r.number) (first_of rs) ≡ None → (first_of rs ≡ None → x ≡ y) → cond t (refused r.number) x ≡ y
+    past true h g = absurd (none-some r.number (sym h))
+    past false h g = g h
 
-pub unless_none : (rs rest : List Refusal) (o : Outcome) → numbered rs ≡ true → first_of rs ≡ 0 → unless (rs ++ rest) o ≡ unless rest o
-unless_none [] rest o n e = refl
-unless_none (r ∷ rs) rest o n e =
-    past r.when r.number (first_of rs) (unless (rs ++ rest) o) (unless rest o) (and_left (not (eqb r.number 0)) (numbered rs) n) (λ h. unless_none rs rest o (and_right (not (eqb r.number 0)) (numbered rs) n) h) e
-
-chosen : (t : Bool) (number first : ℕ) (x : Outcome) → ((first ≡ 0 → ⊥) → x ≡ refused first) → (cond t number first ≡ 0 → ⊥)
-    → cond t (refused number) x ≡ refused (cond t number first)
-chosen true number first x g e = refl
-chosen false number first x g e = g e
-
-pub unless_first : (rs rest : List Refusal) (o : Outcome) → (first_of rs ≡ 0 → ⊥) → unless (rs ++ rest) o ≡ refused (first_of rs)
-unless_first [] rest o e = absurd (e refl)
-unless_first (r ∷ rs) rest o e = chosen r.when r.number (first_of rs) (unless (rs ++ rest) o) (λ h. unless_first rs rest o h) e
+pub unless_first : (rs rest : List Refusal) (o : Outcome) {n : ℕ} → first_of rs ≡ Some n → unless (rs ++ rest) o ≡ refused n
+unless_first [] rest o {n} e = absurd (none-some n e)
+unless_first (r ∷ rs) rest o {n} e = chosen r.when e (λ h. unless_first rs rest o h)
+  where
+    chosen : {x : Outcome} (t : Bool) → cond t (Some r.number) (first_of rs) ≡ Some n → (first_of rs ≡ Some n → x ≡ refused n) → cond t (refused r.number) x ≡ refused n
+    chosen true h g = ap refused (same_Some r.number n h)
+    chosen false h g = g h
 
 -- Where none holds, the kth does not.
-not_here : (t : Bool) (number first : ℕ) → not (eqb number 0) ≡ true → cond t number first ≡ 0 → t ≡ false
-not_here true number first n e = number_there number n e
-not_here false number first n e = refl
-
-nor_after : (t : Bool) (number first : ℕ) → not (eqb number 0) ≡ true → cond t number first ≡ 0 → first ≡ 0
-nor_after true number first n e = number_there number n e
-nor_after false number first n e = e
-
-pub first_none : (rs : List Refusal) (k : ℕ) → numbered rs ≡ true → first_of rs ≡ 0 → (get_or rs k (false ⇒ 1)).when ≡ false
-first_none [] k n e = refl
-first_none (r ∷ rs) zero n e = not_here r.when r.number (first_of rs) (and_left (not (eqb r.number 0)) (numbered rs) n) e
-first_none (r ∷ rs) (suc k) n e = first_none rs k (and_right (not (eqb r.number 0)) (numbered rs) n) (nor_after r.when r.number (first_of rs) (and_left (not (eqb r.number 0)) (numbered rs) n) e)
+pub first_none : (rs : List Refusal) (k : ℕ) → first_of rs ≡ None → (get_or rs k (false ⇒ 1)).when ≡ false
+first_none [] k e = refl
+first_none (r ∷ rs) zero e = not_here r.when e
+  where
+    not_here : (t : Bool) → cond t (Some r.number) (first_of rs) ≡ None → t ≡ false
+    not_here true h = absurd (none-some r.number (sym h))
+    not_here false h = refl
+first_none (r ∷ rs) (suc k) e = first_none rs k (nor_after r.when e)
+  where
+    nor_after : (t : Bool) → cond t (Some r.number) (first_of rs) ≡ None → first_of rs ≡ None
+    nor_after true h = absurd (none-some r.number (sym h))
+    nor_after false h = h
 
 -- A promise through a chain that is passed, and one that refuses.
-pub met_past : {a b : ℕ} {ws l : List ℕ} {r : Answer} (rs rest : List Refusal) (o : Outcome) {n : ℕ}
-    → n ≡ first_of rs → n ≡ 0 → numbered rs ≡ true → Met a b ws (unless rest o) r l → Met a b ws (unless (rs ++ rest) o) r l
-met_past rs rest o e z n d = rw (unless_none rs rest o n (sym e ∙ z)) d
+pub met_past : {a b : ℕ} {ws l : List ℕ} {r : Answer} (rs rest : List Refusal) (o : Outcome)
+    → first_of rs ≡ None → Met a b ws (unless rest o) r l → Met a b ws (unless (rs ++ rest) o) r l
+met_past rs rest o e d = rw (unless_none rs rest o e) d
 
 pub met_first : {a b : ℕ} {ws : List ℕ} {r : Answer} (rs rest : List Refusal) (o : Outcome) {n : ℕ}
-    → n ≡ first_of rs → (n ≡ 0 → ⊥) → r ≡ refusal n 0 → Met a b ws (unless (rs ++ rest) o) r ws
-met_first rs rest o {n} e z a =
-    rw (unless_first rs rest o (λ h. z (e ∙ h)))
-    (record { answers = a ∙ ap (λ (k : ℕ). refusal k 0) e; leaves = refl })
+    → first_of rs ≡ Some n → r ≡ refusal n 0 → Met a b ws (unless (rs ++ rest) o) r ws
+met_first rs rest o e a = rw (unless_first rs rest o e) (record { answers = a; leaves = refl })
 
 -- What is met at the words' own offsets is the call's result; and what is done is told.
 pub done : {ws l : List ℕ} {o : Outcome} {r : Answer} → Met (items_offset ws) (nodes_offset ws) ws o r l → Done (leaving ws o) r l

@@ -8,11 +8,11 @@ use Rattle.frames.specs.Frames.{within, digit, no_digit, all_digits, number_afte
 
 -- ---- a number with a wrong digit is too large
 
-both_left : (a b : Bool) → (a && b) ≡ true → a ≡ true
+pub both_left : (a b : Bool) → (a && b) ≡ true → a ≡ true
 both_left true b h = refl
 both_left false b h = absurd (false≢true h)
 
-both_right : (a b : Bool) → (a && b) ≡ true → b ≡ true
+pub both_right : (a b : Bool) → (a && b) ≡ true → b ≡ true
 both_right true b h = h
 both_right false b h = absurd (false≢true h)
 
@@ -62,7 +62,7 @@ wrong_digit n (b ∷ bs) h = by_test (nat_lt (digit b) 16) refl h (λ k. wrong_d
     by_test true e h again = again h
     by_test false e h again = let d = digit_known b e in let g = grows (n * 16 + digit b) bs in omega arith
 
-first_digit : (b : ℕ) (more : Bool) → (nat_lt (digit b) 16 && more) ≡ true → digit b < 16
+pub first_digit : (b : ℕ) (more : Bool) → (nat_lt (digit b) 16 && more) ≡ true → digit b < 16
 first_digit b more h = ltb-true (digit b) 16 (both_left (nat_lt (digit b) 16) more h)
 
 two_digits : (a b : ℕ) → all_digits (a ∷ b ∷ []) ≡ true → number (a ∷ b ∷ []) < 256
@@ -131,7 +131,7 @@ unfolding all_digits
 digits_append [] ys = refl
 digits_append (x ∷ xs) ys = ap (λ (t : Bool). nat_lt (digit x) 16 && t) (digits_append xs ys) ∙ sym (and_assoc (nat_lt (digit x) 16) (all_digits xs) (all_digits ys))
 
-in_parts : (n : ℕ) (l : List ℕ) → all_digits l ≡ (all_digits (take n l) && all_digits (drop n l))
+pub in_parts : (n : ℕ) (l : List ℕ) → all_digits l ≡ (all_digits (take n l) && all_digits (drop n l))
 in_parts n l = ap all_digits (sym (take-append-drop n l)) ∙ digits_append (take n l) (drop n l)
 
 too_large : (l : List ℕ) → 4 ≤ length l → nat_lt 65535 (number (take 4 l)) ≡ not (all_digits (take 4 l))

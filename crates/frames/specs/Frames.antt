@@ -1,5 +1,5 @@
 -- The frames of document 01's schedule program: what a line asks.
-use Rattle.std.specs.Prelude.{ℕ, ◌+◌, ◌-◌, ◌*◌, Bool, true, cond, ◌&&◌, List, [], ◌∷◌, length, take, drop, ◌==◌, nat_le, nat_lt, slice_index, slice_index_or}
+use Rattle.std.specs.Prelude.{◌≡◌, ℕ, ◌+◌, ◌-◌, ◌*◌, ◌<◌, Bool, true, false, cond, ◌&&◌, List, [], ◌∷◌, Option, None, Some, length, take, drop, ◌==◌, nat_le, nat_lt, slice_index, slice_index_or}
 use Rattle.frames.specs.declared.Frame.{Frame}
 use Rattle.frames.specs.declared.Frame.TheVariants.{Make, Register, VRead, VCas, TakeSnapshot, ReadSnapshot, Total, Step, Bad}
 
@@ -60,3 +60,14 @@ frame line = cond (well_formed (operation line) line) (asked (operation line) (a
 -- The same of a line whose operation is known, by the digits after it.
 abbrev pub framed : ℕ → List ℕ → Frame
 framed o line = cond (all_digits (drop 2 line) && length line == 2 + 4 * arguments o) (asked o (argument line)) Bad
+
+-- What is read where a test holds: the value, and nothing where it does not.
+abbrev pub Reads : {X : Type 0} → Bool → X → Option X → Type 0
+Reads good x None = good ≡ false
+Reads good x (Some y) = (good ≡ true) × (y ≡ x)
+
+-- The n arguments of a line, where it has just so many, and no wrong digit.
+abbrev pub ReadsArguments : ℕ → List ℕ → Option (List ℕ) → Type 0
+ReadsArguments n line None = (all_digits (drop 2 line) && length line == 2 + 4 * n) ≡ false
+ReadsArguments n line (Some xs) =
+    ((all_digits (drop 2 line) && length line == 2 + 4 * n) ≡ true) × ((k : ℕ) → k < n → slice_index xs k ≡ argument line k)

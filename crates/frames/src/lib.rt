@@ -1,14 +1,14 @@
 // Lines, frames and answer lines of the schedule program, by the definitions of specs/.
 #![tactic(auto)]
 
-ghost use Rattle.std.specs.Prelude.{◌≡◌, ◌+◌, ◌<◌, ◌≤◌, length, take, drop};
+ghost use Rattle.std.specs.Prelude.{◌≡◌, ◌+◌, ◌<◌, ◌≤◌, length, nat_lt};
+ghost use Rattle.std.specs.Option.{unwrap_or};
 ghost use Rattle.std.proofs.lemmas.List.Edits.{sets};
 ghost use Rattle.frames.specs.Lines.{line_length, after_line};
-ghost use Rattle.frames.specs.LineLaws.{Before};
-ghost use Rattle.frames.specs.Frames.{number, framed};
+ghost use Rattle.frames.specs.Frames.{all_digits, framed, Reads, ReadsArguments};
 ghost use Rattle.frames.specs.AnswerLines.{hex, answer_length, answer_line};
 ghost use Rattle.frames.specs.AnswerLines.{glyph as glyph_of};
-ghost use Rattle.frames.specs.Frames.{digit as digit_of, frame as frame_of};
+ghost use Rattle.frames.specs.Frames.{digit as digit_of, number as number_of, frame as frame_of};
 
 use definitions::Answer;
 
@@ -55,67 +55,11 @@ pub enum Frame {
     Bad,
 }
 
-// How many of eight bytes stand before the first line feed among them.
-fn before_feed(text: &[u8], i: usize) -> usize
-    requires { i + 8 ≤ length text.now }
-    ensures { Before text.now i result }
-{
-    if text[i] == 10 {
-        return 0;
-    }
-    if text[i + 1] == 10 {
-        return 1;
-    }
-    if text[i + 2] == 10 {
-        return 2;
-    }
-    if text[i + 3] == 10 {
-        return 3;
-    }
-    if text[i + 4] == 10 {
-        return 4;
-    }
-    if text[i + 5] == 10 {
-        return 5;
-    }
-    if text[i + 6] == 10 {
-        return 6;
-    }
-    if text[i + 7] == 10 {
-        return 7;
-    }
-    8
-}
-
-// The same of what is left of a text, byte by byte.
-#[tactic(auto, using(crate::specs::LineLaws::length_feed, crate::specs::LineLaws::length_end))]
-fn line_length_from(text: &[u8], from: usize) -> usize
-    requires { from ≤ length text.now }
-    ensures { (result ≡ from + line_length (drop from text.now)) × (result ≤ length text.now) }
-{
-    let mut i = from;
-    while i < text.len() {
-        if text[i] == 10 {
-            return i;
-        }
-        i += 1;
-    }
-    i
-}
-
-// How many bytes the first line has, without its line feed: eight bytes at a time, and then the rest.
+// How many bytes the first line has, without its line feed.
 pub fn line_length(text: &[u8]) -> usize
     ensures { (result ≡ line_length text.now) × (result ≤ length text.now) }
 {
-    let mut i = 0;
-    while 8 <= text.len() - i {
-        let n = before_feed(text, i);
-        if n < 8 {
-            return i + n;
-        }
-        i += 8;
-    }
-    line_length_from(text, i)
+    memchr::memchr(b'\n', text).unwrap_or(text.len())
 }
 
 // The rest of the text after its first line, as that part of the caller's bytes.
@@ -129,202 +73,145 @@ pub fn after_line(text: &[u8]) -> &[u8]
     &text[n..]
 }
 
-// The number of a lower-case hexadecimal digit; 65536 of any other byte, which makes any number that it stands in too large.
-// By tests and not by a table: a constant table is copied at every use.
-#[tactic(auto, using(crate::specs::FrameLaws::digit_figure, crate::specs::FrameLaws::digit_letter))]
-fn digit(byte: u8) -> u32
-    ensures { (result ≡ digit_of byte) × (result ≤ 65536) }
+// The number of a lower-case hexadecimal digit. By tests and not by a table: a constant table is copied at every use.
+fn digit(byte: u8) -> Option<u32>
+    ensures { Reads (nat_lt (digit_of byte) 16) (digit_of byte) result }
 {
-    let figure = std::num::wrapping_sub_u8(byte, 48);
-    if figure < 10 {
-        return figure as u32;
+    match byte {
+        b'0'..=b'9' => Some(u32::from(byte - b'0')),
+        b'a'..=b'f' => Some(10 + u32::from(byte - b'a')),
+        _ => None,
     }
-    let letter = std::num::wrapping_sub_u8(byte, 97);
-    if letter < 6 {
-        return 10 + letter as u32;
-    }
-    65536
 }
 
-// The number of four digits, and of two.
-fn four(line: &[u8], at: usize) -> u32
-    requires { at + 4 ≤ length line.now }
-    ensures { result ≡ number (take 4 (drop at line.now)) }
+// The number that at most four digits spell.
+fn number(digits: &[u8]) -> Option<u32>
+    requires { length digits.now ≤ 4 }
+    ensures { Reads (all_digits digits.now) (number_of digits.now) result }
 {
-    digit(line[at]) * 4096
-        + digit(line[at + 1]) * 256
-        + digit(line[at + 2]) * 16
-        + digit(line[at + 3])
+    let mut number = 0;
+    for byte in digits {
+        number = number * 16 + digit(*byte)?;
+    }
+    Some(number)
 }
 
-fn two(line: &[u8]) -> u32
-    requires { 2 ≤ length line.now }
-    ensures { result ≡ number (take 2 line.now) }
+// The arguments after the operation of a line, four digits each, where there are just so many.
+fn arguments<const N: usize>(line: &[u8]) -> Option<[u32; N]>
+    requires { N ≤ 5 }
+    ensures { ReadsArguments N line.now result }
 {
-    digit(line[0]) * 16 + digit(line[1])
+    if line.len() != 2 + 4 * N {
+        return None;
+    }
+    let mut arguments = [0; N];
+    for k in 0..N {
+        arguments[k] = number(&line[2 + 4 * k..6 + 4 * k])?;
+    }
+    Some(arguments)
 }
 
-// The frame of each operation, where the line has its length and no wrong digit.
-fn make_frame(line: &[u8]) -> Frame
-    ensures { result ≡ framed 1 line.now }
+// What a line of each operation asks, where it can be read.
+fn make(line: &[u8]) -> Option<Frame>
+    ensures { unwrap_or result Frame.Bad ≡ framed 1 line.now }
 {
-    if line.len() != 22 {
-        return Frame::Bad;
-    }
-    let workers = four(line, 2);
-    let items = four(line, 6);
-    let nodes = four(line, 10);
-    let projects = four(line, 14);
-    let counter = four(line, 18);
-    if (65535 < workers)
-        | (65535 < items)
-        | (65535 < nodes)
-        | (65535 < projects)
-        | (65535 < counter)
-    {
-        return Frame::Bad;
-    }
-    Frame::Make {
+    let [workers, items, nodes, projects, counter] = arguments::<5>(line)?;
+    Some(Frame::Make {
         workers,
         items,
         nodes,
         projects,
         counter,
-    }
+    })
 }
 
-fn register_frame(line: &[u8]) -> Frame
-    ensures { result ≡ framed 2 line.now }
+fn register(line: &[u8]) -> Option<Frame>
+    ensures { unwrap_or result Frame.Bad ≡ framed 2 line.now }
 {
-    if line.len() != 10 {
-        return Frame::Bad;
-    }
-    let value = four(line, 2);
-    let size = four(line, 6);
-    if (65535 < value) | (65535 < size) {
-        return Frame::Bad;
-    }
-    Frame::Register { value, size }
+    let [value, size] = arguments::<2>(line)?;
+    Some(Frame::Register { value, size })
 }
 
-fn v_read_frame(line: &[u8]) -> Frame
-    ensures { result ≡ framed 3 line.now }
+fn v_read(line: &[u8]) -> Option<Frame>
+    ensures { unwrap_or result Frame.Bad ≡ framed 3 line.now }
 {
-    if line.len() != 10 {
-        return Frame::Bad;
-    }
-    let worker = four(line, 2);
-    let item = four(line, 6);
-    if (65535 < worker) | (65535 < item) {
-        return Frame::Bad;
-    }
-    Frame::VRead { worker, item }
+    let [worker, item] = arguments::<2>(line)?;
+    Some(Frame::VRead { worker, item })
 }
 
-fn v_cas_frame(line: &[u8]) -> Frame
-    ensures { result ≡ framed 4 line.now }
+fn v_cas(line: &[u8]) -> Option<Frame>
+    ensures { unwrap_or result Frame.Bad ≡ framed 4 line.now }
 {
-    if line.len() != 18 {
-        return Frame::Bad;
-    }
-    let worker = four(line, 2);
-    let item = four(line, 6);
-    let old = four(line, 10);
-    let new = four(line, 14);
-    if (65535 < worker) | (65535 < item) | (65535 < old) | (65535 < new) {
-        return Frame::Bad;
-    }
-    Frame::VCas {
+    let [worker, item, old, new] = arguments::<4>(line)?;
+    Some(Frame::VCas {
         worker,
         item,
         old,
         new,
-    }
+    })
 }
 
-fn take_snapshot_frame(line: &[u8]) -> Frame
-    ensures { result ≡ framed 5 line.now }
+fn take_snapshot(line: &[u8]) -> Option<Frame>
+    ensures { unwrap_or result Frame.Bad ≡ framed 5 line.now }
 {
-    if line.len() != 6 {
-        return Frame::Bad;
-    }
-    let worker = four(line, 2);
-    if 65535 < worker {
-        return Frame::Bad;
-    }
-    Frame::TakeSnapshot { worker }
+    let [worker] = arguments::<1>(line)?;
+    Some(Frame::TakeSnapshot { worker })
 }
 
-fn read_snapshot_frame(line: &[u8]) -> Frame
-    ensures { result ≡ framed 6 line.now }
+fn read_snapshot(line: &[u8]) -> Option<Frame>
+    ensures { unwrap_or result Frame.Bad ≡ framed 6 line.now }
 {
-    if line.len() != 14 {
-        return Frame::Bad;
-    }
-    let worker = four(line, 2);
-    let item = four(line, 6);
-    let handle = four(line, 10);
-    if (65535 < worker) | (65535 < item) | (65535 < handle) {
-        return Frame::Bad;
-    }
-    Frame::ReadSnapshot {
+    let [worker, item, handle] = arguments::<3>(line)?;
+    Some(Frame::ReadSnapshot {
         worker,
         item,
         handle,
-    }
+    })
 }
 
-fn total_frame(line: &[u8]) -> Frame
-    ensures { result ≡ framed 7 line.now }
+fn total(line: &[u8]) -> Option<Frame>
+    ensures { unwrap_or result Frame.Bad ≡ framed 7 line.now }
 {
-    if line.len() != 14 {
-        return Frame::Bad;
-    }
-    let worker = four(line, 2);
-    let project = four(line, 6);
-    let handle = four(line, 10);
-    if (65535 < worker) | (65535 < project) | (65535 < handle) {
-        return Frame::Bad;
-    }
-    Frame::Total {
+    let [worker, project, handle] = arguments::<3>(line)?;
+    Some(Frame::Total {
         worker,
         project,
         handle,
-    }
+    })
 }
 
-fn step_frame(line: &[u8]) -> Frame
-    ensures { result ≡ framed 8 line.now }
+fn step(line: &[u8]) -> Option<Frame>
+    ensures { unwrap_or result Frame.Bad ≡ framed 8 line.now }
 {
-    if line.len() != 6 {
-        return Frame::Bad;
+    let [worker] = arguments::<1>(line)?;
+    Some(Frame::Step { worker })
+}
+
+// What a line asks, where it can be read.
+fn asked(line: &[u8]) -> Option<Frame>
+    ensures { unwrap_or result Frame.Bad ≡ frame_of line.now }
+{
+    if line.len() < 2 {
+        return None;
     }
-    let worker = four(line, 2);
-    if 65535 < worker {
-        return Frame::Bad;
+    match number(&line[..2])? {
+        1 => make(line),
+        2 => register(line),
+        3 => v_read(line),
+        4 => v_cas(line),
+        5 => take_snapshot(line),
+        6 => read_snapshot(line),
+        7 => total(line),
+        8 => step(line),
+        _ => None,
     }
-    Frame::Step { worker }
 }
 
 // The frame of a line.
 pub fn read_frame(line: &[u8]) -> Frame
     ensures { result ≡ frame_of line.now }
 {
-    if line.len() < 2 {
-        return Frame::Bad;
-    }
-    let operation = two(line);
-    match operation {
-        1 => make_frame(line),
-        2 => register_frame(line),
-        3 => v_read_frame(line),
-        4 => v_cas_frame(line),
-        5 => take_snapshot_frame(line),
-        6 => read_snapshot_frame(line),
-        7 => total_frame(line),
-        8 => step_frame(line),
-        _ => Frame::Bad,
-    }
+    asked(line).unwrap_or(Frame::Bad)
 }
 
 // The lower-case hexadecimal digit of a number below 16.
@@ -335,68 +222,40 @@ fn glyph(number: u64) -> u8
     (48 + number + 39 * ((number + 6) / 16)) as u8
 }
 
-// The last four digits of a number, and the last two, stored from a place on.
-fn put_four(out: &mut [u8], at: usize, number: u64)
-    requires { at + 4 ≤ length out.old }
-    ensures { out.new ≡ sets out.old at (hex 4 number) }
+// The last digits of a number.
+fn last_digits<const DIGITS: usize>(number: u64) -> [u8; DIGITS]
+    ensures { result ≡ hex DIGITS number }
 {
-    let third = number / 16;
-    let second = third / 16;
-    let first = second / 16;
-    out[at] = glyph(first % 16);
-    out[at + 1] = glyph(second % 16);
-    out[at + 2] = glyph(third % 16);
-    out[at + 3] = glyph(number % 16);
+    let mut digits = [0; DIGITS];
+    let mut left = number;
+    for k in (0..DIGITS).rev() {
+        digits[k] = glyph(left % 16);
+        left /= 16;
+    }
+    digits
 }
 
-fn put_two(out: &mut [u8], at: usize, number: u64)
-    requires { at + 2 ≤ length out.old }
-    ensures { out.new ≡ sets out.old at (hex 2 number) }
+// The same, stored from a place on.
+fn put_digits<const DIGITS: usize>(out: &mut [u8], at: usize, number: u64)
+    requires { at + DIGITS ≤ length out.old }
+    ensures { out.new ≡ sets out.old at (hex DIGITS number) }
 {
-    let first = number / 16;
-    out[at] = glyph(first % 16);
-    out[at + 1] = glyph(number % 16);
+    out[at..at + DIGITS].copy_from_slice(&last_digits::<DIGITS>(number));
 }
 
-// Twelve zeros, as constants.
-fn put_zeros(out: &mut [u8], at: usize)
-    requires { at + 12 ≤ length out.old }
-    ensures { out.new ≡ sets out.old at (hex 12 0) }
-{
-    put_four(out, at, 0);
-    put_four(out, at + 4, 0);
-    put_four(out, at + 8, 0);
-}
-
-// The sixteen digits of a value. Most values are 0, and most others small: those go by constants.
+// The sixteen digits of a value. Most values are 0, and most others small: their zeros go by constants.
 fn put_value(out: &mut [u8], at: usize, value: u64)
     requires { at + 16 ≤ length out.old }
     ensures { out.new ≡ sets out.old at (hex 16 value) }
 {
-    if value == 0 {
-        put_zeros(out, at);
-        put_four(out, at + 12, 0);
-        return;
+    match value {
+        0 => put_digits::<16>(out, at, 0),
+        1..=65535 => {
+            put_digits::<12>(out, at, 0);
+            put_digits::<4>(out, at + 12, value);
+        }
+        _ => put_digits::<16>(out, at, value),
     }
-    if value < 65536 {
-        put_zeros(out, at);
-        put_four(out, at + 12, value);
-        return;
-    }
-    put_large(out, at, value);
-}
-
-fn put_large(out: &mut [u8], at: usize, value: u64)
-    requires { at + 16 ≤ length out.old }
-    ensures { out.new ≡ sets out.old at (hex 16 value) }
-{
-    let third = value / 65536;
-    let second = third / 65536;
-    let first = second / 65536;
-    put_four(out, at, first);
-    put_four(out, at + 4, second);
-    put_four(out, at + 8, third);
-    put_four(out, at + 12, value);
 }
 
 // How many bytes an answer line has.
@@ -407,8 +266,8 @@ pub fn put_answer(out: &mut [u8], at: usize, answer: Answer)
     requires { at + answer_length ≤ length out.old }
     ensures { out.new ≡ sets out.old at (answer_line answer) }
 {
-    put_two(out, at, answer.code as u64);
+    put_digits::<2>(out, at, u64::from(answer.code));
     put_value(out, at + 2, answer.value);
-    put_four(out, at + 18, answer.steps as u64);
-    out[at + 22] = 10;
+    put_digits::<4>(out, at + 18, u64::from(answer.steps));
+    out[at + 22] = b'\n';
 }

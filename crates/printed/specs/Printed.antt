@@ -1,8 +1,9 @@
 -- What the schedule program prints on a text, line by line, and what is promised where each line is printed: the statement, proved of every text in
 -- AsPromised. `printed` (text/specs/Replies) is a definition. That the compiled program prints it is proved as far as a contract can say it: `answer_piece`
 -- and `answer_last` (crate text) put the answer lines of a piece of the text into the output, each turn of the program's loop does so with what it
--- has read (`After`, crate schedule), and the pieces together come to `printed` of the whole text. That the
--- loop is given all of its input, and that its output is written, is read in its code, assumed of libc's read and write, and tested.
+-- has read, and the pieces together come to `printed` of the whole text (`Ran`, crate schedule). That this text is what the loop took from its input, and
+-- that the answers are what its output gained, is proved of any reader and writer whose bytes are known (`RanOn`, crate schedule); that the standard
+-- streams are such is assumed of libc's read and write, and tested.
 use Rattle.std.specs.Prelude.{◌≡◌, List, [], ◌∷◌, ◌++◌, ℕ}
 use Rattle.definitions.specs.Answers.{refusal}
 use Rattle.definitions.specs.Calls.{Call, outcome}

@@ -1,5 +1,6 @@
 -- What the program exchanges with the operating system, turn by turn, as far as a contract can tell it: some read answered this, with these bytes,
--- and these bytes were handed to write. Which bytes are read from the input, and that those handed on are written, no contract can say.
+-- and these bytes were handed to write. That the bytes read are those of the input, and that those handed on are written, `RanOn` (Runs) says of a reader
+-- and a writer whose bytes are known.
 use Rattle.std.specs.Prelude.{◌≡◌, ℕ, suc, ◌<◌, ◌≤◌, Bool, true, false, List, [], ◌∷◌, ◌++◌, ℤ, pos, negsuc, length}
 use Rattle.frames.specs.declared.Frame.{Frame}
 use Rattle.text.specs.Replies.{answers, words_after, frames_of}

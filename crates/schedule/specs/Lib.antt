@@ -1,3 +1,4 @@
 pub mod Exchanges
 pub mod Turns
 pub mod Sessions
+pub mod Runs

@@ -1,5 +1,7 @@
 -- Turns one after the other: after each of them the words, what is kept and what was handed to write are those of the whole text that was read.
-use Rattle.std.specs.Prelude.{◌≡◌, refl, Bool, true, false, ℤ, pos, take}
+use Rattle.std.specs.Prelude.{◌≡◌, refl, Bool, true, false, Option, Result, Ok, Err, OnOk, IfErr, ℤ, pos, negsuc, take}
+use Rattle.std.specs.Io.KnownBytes.{Consumes, Appends, IsAtEnd, Keeps}
+use Rattle.std.proofs.KnownBytes.{Consumes-nil, Appends-nil, Consumes-trans, Appends-trans, Consumes-kept}
 use Rattle.std.proofs.Math.Path.{ap, sym, subst}
 use Rattle.std.proofs.Common.{◌∙◌, true≢false, length-append, take_at}
 use Prim.Native.Nat.{ℕ, suc, ◌+◌, ◌-◌, ◌<◌, ◌≤◌}
@@ -14,9 +16,11 @@ use Rattle.text.specs.Replies.{answers, words_after, frames_of, lent, printed}
 use Rattle.text.specs.Feeding.{kept, frames_in, last_frame, Piece, Last}
 use Rattle.text.specs.PieceLaws.{written_fits, last_fits}
 use Rattle.text.specs.Pieces.{answers_append, after_append, frames_on, kept_on, frames_at_end}
-use Rattle.schedule.specs.declared.Turn.{Turn}
+use Rattle.schedule.specs.declared.Failure.{Failure}
+use Rattle.schedule.specs.declared.Failure.TheVariants.{Arguments, Unread, Unwritten, NobodyReads, TurnsSpent}
+use Rattle.schedule.specs.Runs.{OfWrite, RanOn}
 use Rattle.schedule.specs.Exchanges.{AsMany, Exchange, all_read, all_handed, AllGoOn, most_turns, Ends, input_ended, read_failed, write_failed, turns_spent, Ran}
-use Rattle.schedule.specs.Turns.{out_length, After, unread, ended, went_on, Turned}
+use Rattle.schedule.specs.Turns.{Turn, out_length, After, unread, ended, went_on, Turned}
 
 -- The program, which starts with the lent words: where the input ended, all that it handed to write is what is printed on the text.
 pub program_prints : (r : Bool) (ws' : List ℕ) (run : Ran lent r ws') → run.last.got ≡ pos 0
@@ -148,19 +152,150 @@ module _ (ws₀ ws k : List ℕ) (left : ℕ) (s : Session ws₀ ws k left) wher
     last_turn h = leaves_off t.after h
 
 -- all turns are spent
-pub no_turn_left : (ws₀ ws k : List ℕ) (left : ℕ) → Session ws₀ ws k left → left ≤ 0 → Ran ws₀ true ws
-no_turn_left ws₀ ws k left s none = by_turns s.turns s.each_goes_on (omega (arith, s.counts)) s.words s.hands
+abbrev Spent : List ℕ → List ℕ → List Exchange → Type 0
+Spent ws₀ ws es = (run : Ran ws₀ true ws) × (all_read (run.last ∷ run.before) ≡ all_read es)
+
+spent : (ws₀ ws k : List ℕ) (left : ℕ) (s : Session ws₀ ws k left) → left ≤ 0 → Spent ws₀ ws s.turns
+spent ws₀ ws k left s none = by_turns s.turns s.each_goes_on (omega (arith, s.counts)) s.words s.hands
   where
     by_turns : (es : List Exchange) → AllGoOn es → length es ≡ most_turns → ws ≡ words_after ws₀ (frames_in (all_read es))
-        → all_handed es ≡ answers ws₀ (frames_in (all_read es)) → Ran ws₀ true ws
+        → all_handed es ≡ answers ws₀ (frames_in (all_read es)) → Spent ws₀ ws es
     by_turns [] on m w h = absurd (omega arith)
-    by_turns (e ∷ es) on m w h = record {
-      before = es;
-      last = e;
-      frames = frames_in (all_read (e ∷ es));
-      each_goes_on = on.2;
-      at_most = omega arith;
-      ends = turns_spent on.0 on.1 m;
-      hands = h;
-      leaves = w;
+    by_turns (e ∷ es) on m w h = (
+      record {
+        before = es;
+        last = e;
+        frames = frames_in (all_read (e ∷ es));
+        each_goes_on = on.2;
+        at_most = omega arith;
+        ends = turns_spent on.0 on.1 m;
+        hands = h;
+        leaves = w;
+      },
+      refl,
+    )
+
+pub no_turn_left : (ws₀ ws k : List ℕ) (left : ℕ) → Session ws₀ ws k left → left ≤ 0 → Ran ws₀ true ws
+no_turn_left ws₀ ws k left s none = (spent ws₀ ws k left s none).0
+
+-- ---- the same, with what the input gave and the output took
+
+pub record Underway (r₀ r w₀ w : Option (List ℕ)) (ws₀ ws k : List ℕ) (left : ℕ) : Type 0 where
+  pub session : Session ws₀ ws k left
+  pub reads_on : Consumes r₀ r (all_read session.turns)
+  pub appends : Appends w₀ w (all_handed session.turns)
+
+pub underway_start : (r w : Option (List ℕ)) (ws k : List ℕ) → k ≡ [] → Underway r r w w ws ws k most_turns
+unfolding session_start all_read all_handed
+underway_start r w ws k e =
+    subst (λ (l : List ℕ). Underway r r w w ws ws l most_turns) (sym e)
+    (record { session = session_start ws; reads_on = Consumes-nil r; appends = Appends-nil w })
+
+-- a turn that read p
+abbrev piece_turned : (k ws out p : List ℕ) (n : ℕ) → length p ≡ suc n → length k + length p ≤ 16384 → (goes_on : Bool) (held written : ℕ) (bytes' ws' out' : List ℕ)
+    → Piece (k ++ p) ws out (record { held = held; written = written }) bytes' ws' out'
+    → Turned k ws out (record { held = held; written = written; goes_on = goes_on }) bytes' ws' out'
+piece_turned k ws out p n count fits goes_on held written bytes' ws' out' piece = record {
+  exchange = record { got = pos (suc n); read = p; as_many = count; handed = take written out'; goes_on = goes_on };
+  after = went_on n refl piece;
+  hands = refl;
+  goes_on = refl;
+  in_buffer = fits;
+}
+
+-- one turn more: r' is what the input has left after its read, which kept the words and what is held
+module _ (r₀ r w₀ w : Option (List ℕ)) (ws₀ ws₁ k₁ : List ℕ) (left : ℕ) (before : Underway r₀ r w₀ w ws₀ ws₁ k₁ left) (ws k : List ℕ) (same_words : ws ≡ ws₁)
+    (same_kept : k ≡ k₁) (r' : Option (List ℕ)) (out : List ℕ) (long : length out ≡ out_length) (more : 0 < left) where
+  abbrev u : Underway r₀ r w₀ w ws₀ ws k left
+  u =
+      subst (λ (l : List ℕ). Underway r₀ r w₀ w ws₀ l k left) (sym same_words)
+      (subst (λ (l : List ℕ). Underway r₀ r w₀ w ws₀ ws₁ l left) (sym same_kept) before)
+
+  module _ (n : ℕ) (p : List ℕ) (count : length p ≡ suc n) (fits : length k + length p ≤ 16384) (took : Consumes r r' p)
+      (held written : ℕ) (bytes' ws' out' : List ℕ) (piece : Piece (k ++ p) ws out (record { held = held; written = written }) bytes' ws' out') where
+    pub turn_on : (w' : Option (List ℕ)) → Appends w w' (take written out') → Underway r₀ r' w₀ w' ws₀ ws' (take held bytes') (left - 1)
+    unfolding all_read all_handed goes_on next_turn
+    turn_on w' a = record {
+      session = next_turn ws₀ ws k left u.session out _ bytes' ws' out' long more (piece_turned k ws out p n count fits true held written bytes' ws' out' piece) refl;
+      reads_on = Consumes-trans r₀ r r' _ p u.reads_on took;
+      appends = Appends-trans w₀ w w' _ _ u.appends a;
     }
+
+    last_of : Ran ws₀ false ws'
+    last_of = last_turn ws₀ ws k left u.session out _ bytes' ws' out' long more (piece_turned k ws out p n count fits false held written bytes' ws' out' piece) refl
+
+    pub write_stops : {T : Type 0} (w' : Option (List ℕ)) (f : Failure) → OfWrite f → RanOn {T = T} r₀ r' w₀ w' ws₀ (Err f) ws'
+    unfolding all_read last_of last_turn leaves_off ended_by
+    write_stops w' Unwritten h = record { run = last_of; reads_on = Consumes-trans r₀ r r' _ p u.reads_on took; ended_by = tt; at_end = tt; appends = tt }
+    write_stops w' NobodyReads h = record { run = last_of; reads_on = Consumes-trans r₀ r r' _ p u.reads_on took; ended_by = tt; at_end = tt; appends = tt }
+    write_stops w' Arguments h = absurd h
+    write_stops w' Unread h = absurd h
+    write_stops w' TurnsSpent h = absurd h
+
+  -- a turn that found the end of the input
+  module _ (little : length k ≤ 16384) (took : Consumes r r' []) (end : IsAtEnd r') (written : ℕ) (ws' out' : List ℕ) (last : Last k ws out written ws' out') where
+    abbrev end_turned : Turned k ws out (record { held = 0; written = written; goes_on = false }) [] ws' out'
+    end_turned = record {
+      exchange = record { got = pos 0; read = []; as_many = refl; handed = take written out'; goes_on = false };
+      after = ended refl refl last;
+      hands = refl;
+      goes_on = refl;
+      in_buffer = omega arith;
+    }
+
+    ended_there : Ran ws₀ false ws'
+    ended_there = last_turn ws₀ ws k left u.session out _ [] ws' out' long more end_turned refl
+
+    pub input_ends : {T : Type 0} (w' : Option (List ℕ)) (answered : Result T Failure) → IfErr answered OfWrite → OnOk answered (Appends w w' (take written out'))
+        → RanOn r₀ r' w₀ w' ws₀ answered ws'
+    unfolding all_read all_handed ended_there last_turn leaves_off ended_by
+    input_ends w' (Ok t) h a = record {
+      run = ended_there;
+      reads_on = Consumes-trans r₀ r r' _ [] u.reads_on took;
+      ended_by = refl;
+      at_end = end;
+      appends = Appends-trans w₀ w w' _ _ u.appends a;
+    }
+    input_ends w' (Err Unwritten) h a = record { run = ended_there; reads_on = Consumes-trans r₀ r r' _ [] u.reads_on took; ended_by = tt; at_end = tt; appends = tt }
+    input_ends w' (Err NobodyReads) h a = record { run = ended_there; reads_on = Consumes-trans r₀ r r' _ [] u.reads_on took; ended_by = tt; at_end = tt; appends = tt }
+    input_ends w' (Err Arguments) h a = absurd h
+    input_ends w' (Err Unread) h a = absurd h
+    input_ends w' (Err TurnsSpent) h a = absurd h
+
+  -- a turn whose read failed
+  module _ (little : length k ≤ 16384) (kept_on : Keeps r r') where
+    abbrev unread_turned : Turned k ws out (record { held = 0; written = 0; goes_on = false }) [] ws out
+    unread_turned = record {
+      exchange = record { got = negsuc 0; read = []; as_many = refl; handed = []; goes_on = false };
+      after = unread 0 refl refl refl refl refl;
+      hands = refl;
+      goes_on = refl;
+      in_buffer = omega arith;
+    }
+
+    unread_there : Ran ws₀ false ws
+    unread_there = last_turn ws₀ ws k left u.session out _ [] ws out long more unread_turned refl
+
+    pub read_stops : {T : Type 0} → RanOn {T = T} r₀ r' w₀ w ws₀ (Err Unread) ws
+    unfolding all_read unread_there last_turn leaves_off ended_by
+    read_stops = record {
+      run = unread_there;
+      reads_on = subst (Consumes r₀ r') (sym (append-nil _)) (Consumes-kept r₀ r r' _ u.reads_on kept_on);
+      ended_by = refl;
+      at_end = tt;
+      appends = tt;
+    }
+
+-- all turns are spent
+pub turns_stop : {T : Type 0} (r₀ r w₀ w : Option (List ℕ)) (ws₀ ws k : List ℕ) (left : ℕ) → Underway r₀ r w₀ w ws₀ ws k left → left ≤ 0
+    → RanOn {T = T} r₀ r w₀ w ws₀ (Err TurnsSpent) ws
+turns_stop r₀ r w₀ w ws₀ ws k left u none =
+    let s = spent ws₀ ws k left u.session none in
+    record { run = s.0; reads_on = subst (Consumes r₀ r) (sym s.1) u.reads_on; ended_by = tt; at_end = tt; appends = tt }
+
+-- The program, from the lent words: where a run answers Ok, its input is at the end, and what is printed on all that the input gave is what the output
+-- gained.
+pub program_gives : {T : Type 0} (r₀ r₁ w₀ w₁ : Option (List ℕ)) (t : T) (ws' : List ℕ) → RanOn r₀ r₁ w₀ w₁ lent (Ok t) ws'
+    → (text : List ℕ) × Consumes r₀ r₁ text × IsAtEnd r₁ × Appends w₀ w₁ (printed text)
+program_gives r₀ r₁ w₀ w₁ t ws' ran =
+    (all_read (ran.run.last ∷ ran.run.before), ran.reads_on, ran.at_end, subst (Appends w₀ w₁) (program_prints false ws' ran.run ran.ended_by) ran.appends)

@@ -1,13 +1,18 @@
 -- What one turn of the program does, up to the operating system's reading and writing.
-use Rattle.std.specs.Prelude.{◌≡◌, refl, ℕ, zero, suc, ◌+◌, ◌*◌, ◌-◌, ◌<◌, ◌≤◌, min, true, false, List, Option, ◌++◌, length, take, drop, ℤ, pos, negsuc}
+use Rattle.std.specs.Prelude.{◌≡◌, refl, Bool, ℕ, zero, suc, ◌+◌, ◌*◌, ◌-◌, ◌<◌, ◌≤◌, min, true, false, List, Option, ◌++◌, length, take, drop, ℤ, pos, negsuc}
 use Rattle.std.proofs.Common.{sym, ap, subst, ◌∙◌, true≢false, arith, ltb-true, length-append, length-take, length-drop, take_at, drop_at, length-take-le}
 use Rattle.std.specs.Int.Signed.{lt_z}
 use Rattle.std.specs.Io.KnownBytes.{Consumes, IsAtEnd, Keeps}
 use Rattle.frames.specs.AnswerLines.{answer_length}
 use Rattle.text.specs.declared.Kept.{Kept}
 use Rattle.text.specs.Feeding.{Piece, Last}
-use Rattle.schedule.specs.declared.Turn.{Turn}
 use Rattle.schedule.specs.Exchanges.{AsMany, Exchange}
+
+-- What a turn came to: how many bytes wait for their line feed, how many bytes of answers were handed to write, and whether the program goes on.
+pub record Turn : Type 0 where
+  pub held : ℕ
+  pub written : ℕ
+  pub goes_on : Bool
 
 -- How many bytes the output has: an answer line for each byte of the text's buffer, which may be a line feed.
 abbrev pub out_length : ℕ

@@ -1,14 +1,18 @@
 -- Which line a row of the table of phases stands for; the definitions' list of lines is this, row by row.
-use Rattle.std.specs.Prelude.{ℕ, ◌+◌, ◌*◌, ◌≡◌, refl, Bool, false, cond, List, [], ◌∷◌, map, eqb, get_or}
+use Rattle.std.specs.Prelude.{ℕ, ◌+◌, ◌*◌, ◌≡◌, refl, Bool, false, Err, cond, List, [], ◌∷◌, map, eqb, get_or}
 use Rattle.std.proofs.Common.{arith, ap, sym, ◌∙◌, subst, ne_eqb}
 use Rattle.std.proofs.Math.ListN.{get_or-map}
 use Rattle.definitions.specs.declared.Answer.{Answer}
 use Rattle.definitions.specs.declared.PhaseRow.{PhaseRow}
 use Rattle.definitions.specs.Cells.{Cells, cells_at, cells_of, items_offset, nodes_offset}
-use Rattle.definitions.specs.Answers.{◌⇒◌, unless}
+use Rattle.definitions.specs.Answers.{◌⇒◌, unless, refusal}
 use Rattle.definitions.specs.Damage.{arguments_damaged}
 use Rattle.definitions.specs.Promises.{Met}
+use Rattle.endings.specs.declared.reason.Reason.{Reason}
+use Rattle.endings.specs.declared.site.Site.{Site}
+use Rattle.endings.specs.Ended.{Reads, answered, number_of}
 use Rattle.endings.specs.Stepped.{Steps, Ready, stepped}
+use Rattle.endings.specs.Laws.{met_if, met_else, refuses}
 use Rattle.tables.specs.Ranges.{kept_at, kept_is}
 use Rattle.tables.specs.Rules.{has_operation, snapshot_lines, other_lines}
 use Rattle.facts.specs.Facts.{Header, Busy, late}
@@ -63,22 +67,30 @@ abbrev pub RowSteps : PhaseRow → Line → (a b w : ℕ) → List ℕ → Answe
 RowSteps r l a b w before answer after =
     Met a b before (unless (late r (cells_at a b before) w ⇒ 2 ∷ []) (stepped l (cells_at a b before) w)) answer after
 
--- The test of what a line keeps, at the row whose line it is.
-pub kept_told : (r : PhaseRow) (m : Cells) (w k : ℕ) {t v : Bool} → r.line ≡ k → t ≡ kept_at k m w → t ≡ v → late r m w ≡ v
-kept_told r m w k e d v = kept_is r m w ∙ ap (λ (l : ℕ). kept_at l m w) e ∙ sym d ∙ v
+-- The same, of the worker of a site.
+abbrev pub FitAt : Site → PhaseRow → List ℕ → Type 0
+FitAt s = Fit s.items_at s.nodes_at s.worker
 
--- A line that keeps nothing.
-pub nothing_kept : (r : PhaseRow) (m : Cells) (w k : ℕ) → r.line ≡ k → kept_at k m w ≡ false → late r m w ≡ false
-nothing_kept r m w k e h = kept_is r m w ∙ ap (λ (l : ℕ). kept_at l m w) e ∙ h
+abbrev pub RowStepsAt : PhaseRow → Line → Site → List ℕ → Answer → List ℕ → Type 0
+RowStepsAt r l s = RowSteps r l s.items_at s.nodes_at s.worker
 
--- The number of a match's arm, put in the place of the row's line.
-pub at_number : (a b w o : ℕ) (ws : List ℕ) {l k : ℕ} {r : Answer} {after : List ℕ} → l ≡ k
-    → Steps (by_number o k) a b w ws r after → Steps (by_number o l) a b w ws r after
-at_number a b w o ws {r = r} {after = after} e d = subst (λ (n : ℕ). Steps (by_number o n) a b w ws r after) (sym e) d
+-- What the row keeps is tested where the line is known, by its number.
+pub late_is : (r : PhaseRow) (m : Cells) (w k : ℕ) {v : Bool} → r.line ≡ k → kept_at k m w ≡ v → late r m w ≡ v
+late_is r m w k e h = kept_is r m w ∙ ap (λ (l : ℕ). kept_at l m w) e ∙ h
 
-pub at_later : (a b w : ℕ) (ws : List ℕ) {l k : ℕ} {r : Answer} {after : List ℕ} → l ≡ k
-    → Steps (later_line k) a b w ws r after → Steps (later_line l) a b w ws r after
-at_later a b w ws {r = r} {after = after} e d = subst (λ (n : ℕ). Steps (later_line n) a b w ws r after) (sym e) d
+-- A match's arm: the row has the arm's number, and what that line keeps is not damaged. The step does the line that f has for it.
+pub does : (f : ℕ → Line) (r : PhaseRow) (s : Site) (ws : List ℕ) {k : ℕ} {answer : Answer} {after : List ℕ} → r.line ≡ k
+    → kept_at k (cells_at s.items_at s.nodes_at ws) s.worker ≡ false
+    → Steps (f k) s.items_at s.nodes_at s.worker ws answer after → RowStepsAt r (f r.line) s ws answer after
+does f r s ws {k} {answer} {after} e h d =
+    met_else _ (late_is r (cells_at s.items_at s.nodes_at ws) s.worker k e h)
+    (subst (λ (n : ℕ). Steps (f n) s.items_at s.nodes_at s.worker ws answer after) (sym e) d)
+
+-- And where it is damaged, the step is refused.
+pub kept_damage : (r : PhaseRow) (l : Line) (s : Site) (ws : List ℕ) {k : ℕ} {reason : Reason} → r.line ≡ k
+    → Reads (kept_at k (cells_at s.items_at s.nodes_at ws) s.worker) (tt {0}) (Err reason) → RowStepsAt r l s ws (answered (Err reason)) ws
+kept_damage r l s ws {k} e h =
+    met_if _ (late_is r (cells_at s.items_at s.nodes_at ws) s.worker k e h.0) (refuses 2 (ap (λ (x : Reason). refusal (number_of x) 0) h.1))
 
 -- No arm's number fits. The numbers come as the match has them, the last first.
 abbrev pub NoneOf : ℕ → List ℕ → Type 0

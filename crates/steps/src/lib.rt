@@ -10,26 +10,23 @@ ghost use Rattle.definitions.specs.Damage.{inside_item, item_damaged};
 ghost use Rattle.definitions.specs.Calls.{outcome, stepping};
 ghost use Rattle.definitions.specs.Calls.Call.{step};
 ghost use Rattle.definitions.specs.Promises.{Met, Done};
-ghost use Rattle.steps.specs.Dispatch.{Fit};
+ghost use Rattle.endings.specs.Ended.{answered};
+ghost use Rattle.steps.specs.Dispatch.{FitAt};
 ghost use Rattle.facts.specs.Facts.{Header, Busy, busy_step};
 
 use crate::dispatch::run_row;
 use definitions::{Answer, PhaseRow};
-use endings::refuse;
+use endings::reason::{Reason, answer_of, refuse};
+use endings::site::Site;
 use tables::damage::{header_is_damaged, item_is_damaged, steps_or_arguments_are_damaged};
 use tables::fields::{HEADER_WORDS, ITEM, ITEM_WORDS, ITEMS_LIMIT, PHASE, WORKER_WORDS, WORKERS};
 use tables::phases::{CLOSING_PHASE, TAKE_SNAPSHOT, row_at};
 
 // The item that a running operation is inside of, where it is inside of one.
-fn its_item_is_damaged(
-    words: &[u32],
-    items_at: usize,
-    nodes_at: usize,
-    w: usize,
-    row: PhaseRow,
-) -> bool
-    requires { Fit items_at nodes_at w row words.now }
-    ensures { result ≡ inside_item row && item_damaged (cells_at items_at nodes_at words.now) (cells_at items_at nodes_at words.now (item w)) }
+fn its_item_is_damaged(words: &[u32], site: Site, row: PhaseRow) -> bool
+    requires { FitAt site row words.now }
+    ensures { let m = cells_at site.items_at site.nodes_at words.now in
+        result ≡ inside_item row && item_damaged m (m (item site.worker)) }
 {
     if row.operation == TAKE_SNAPSHOT {
         return false;
@@ -37,42 +34,47 @@ fn its_item_is_damaged(
     if row.line == 0 {
         return false;
     }
-    let i = words[HEADER_WORDS + WORKER_WORDS * w + ITEM] as usize;
-    item_is_damaged(words, items_at, i)
+    let i = words[HEADER_WORDS + WORKER_WORDS * site.worker + ITEM] as usize;
+    item_is_damaged(words, site.items_at, i)
 }
 
 // A step of a busy worker whose step count and arguments are not damaged, at the row of its phase.
-fn step_busy(words: &mut [u32], w: usize, row: PhaseRow) -> Answer
+fn step_busy(words: &mut [u32], w: usize, row: PhaseRow) -> Result<Answer, Reason>
     requires { Header words.old × Busy w words.old × (row ≡ row_of (get_or words.old (16 + 16 * w + 0) 0)) }
-    ensures { Met (items_offset words.old) (nodes_offset words.old) words.old (busy_step (cells_of words.old) w) result words.new }
+    ensures { Met (items_offset words.old) (nodes_offset words.old) words.old (busy_step (cells_of words.old) w) (answered result) words.new }
 {
     let items_at = HEADER_WORDS + WORKER_WORDS * (words[WORKERS] as usize);
     let nodes_at = items_at + ITEM_WORDS * (words[ITEMS_LIMIT] as usize);
-    if its_item_is_damaged(words, items_at, nodes_at, w, row) {
-        return refuse(2);
+    let site = Site {
+        items_at,
+        nodes_at,
+        worker: w,
+    };
+    if its_item_is_damaged(words, site, row) {
+        return Err(Reason::Damaged);
     }
-    run_row(words, items_at, nodes_at, w, row)
+    run_row(words, site, row)
 }
 
 // A step where the header is not damaged. The table of phases is consulted once, for the damage test and for the line.
-fn step_sound(words: &mut [u32], worker: u32) -> Answer
+fn step_sound(words: &mut [u32], worker: u32) -> Result<Answer, Reason>
     requires { Header words.old }
-    ensures { Met (items_offset words.old) (nodes_offset words.old) words.old (stepping (cells_of words.old) worker) result words.new }
+    ensures { Met (items_offset words.old) (nodes_offset words.old) words.old (stepping (cells_of words.old) worker) (answered result) words.new }
 {
     if words[WORKERS] <= worker {
-        return refuse(3);
+        return Err(Reason::NoWorker);
     }
     let w = worker as usize;
     let phase = words[HEADER_WORDS + WORKER_WORDS * w + PHASE];
     if CLOSING_PHASE < phase {
-        return refuse(2);
+        return Err(Reason::Damaged);
     }
     if phase == 0 {
-        return refuse(5);
+        return Err(Reason::Idle);
     }
     let row = row_at(phase as usize);
     if steps_or_arguments_are_damaged(words, w, row) {
-        return refuse(2);
+        return Err(Reason::Damaged);
     }
     step_busy(words, w, row)
 }
@@ -82,7 +84,7 @@ pub fn step(words: &mut [u32], worker: u32) -> Answer
     ensures { Done (outcome words.old (step worker)) result words.new }
 {
     if header_is_damaged(words) {
-        return refuse(2);
+        return refuse(Reason::Damaged);
     }
-    step_sound(words, worker)
+    answer_of(step_sound(words, worker))
 }

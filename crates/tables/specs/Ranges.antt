@@ -1,5 +1,5 @@
 -- What a passed damage test tells, and the node test as the node part has it.
-use Rattle.std.specs.Prelude.{◌≡◌, refl, Bool, true, false, not, ◌||◌, ◌&&◌, List, [], ◌∷◌, ℕ, zero, suc, ◌+◌, ◌*◌, ◌<◌, ltb, leb, eqb, get_or}
+use Rattle.std.specs.Prelude.{◌≡◌, refl, Bool, true, false, cond, not, Option, None, Some, ◌-◌, ◌||◌, ◌&&◌, List, [], ◌∷◌, ℕ, zero, suc, ◌+◌, ◌*◌, ◌<◌, ◌≤◌, length, ltb, leb, eqb, get_or}
 use Rattle.std.proofs.lemmas.Bool.{false≢true}
 use Rattle.std.proofs.Common.{arith, lt-ltb}
 use Rattle.definitions.specs.declared.PhaseRow.{PhaseRow}
@@ -81,3 +81,11 @@ kept_at l m w =
 pub kept_is : (r : PhaseRow) (m : Cells) (w : ℕ) → (kept_damaged r m w || beyond_at_6 r m w) ≡ kept_at r.line m w
 unfolding kept_damaged kept_at
 kept_is r m w = refl
+
+-- The node that a header word says: its number plus one, and 0 where there is none.
+abbrev pub waiting : ℕ → Option ℕ
+waiting back = cond (eqb back 0) None (Some (back - 1))
+
+-- The sixteen words of worker w's record are there.
+abbrev pub HasRecord : ℕ → List ℕ → Type 0
+HasRecord w ws = 16 + 16 * w + 16 ≤ length ws

@@ -1,8 +1,9 @@
 // The damage tests: each answers the definition of its name in definitions/specs/Damage.antt, without a branch where the words are there to read.
-ghost use Rattle.std.specs.Prelude.{◌≡◌, ◌||◌, ℕ, ◌+◌, ◌*◌, ◌<◌, ◌≤◌, length, get_or};
-ghost use Rattle.definitions.specs.Cells.{node_words, cells_at, needed};
-ghost use Rattle.definitions.specs.Damage.{any_of, outside, sizes_outside, header_damaged_at, header_damaged, total_tests, arguments_damaged, kept_damaged, running_damaged, worker_damaged, too_many_steps, item_damaged, first_damaged};
-ghost use Rattle.tables.specs.Ranges.{node_outside, kept_at};
+ghost use Rattle.std.specs.Prelude.{◌≡◌, ◌||◌, ◌&&◌, eqb, false, ℕ, ◌+◌, ◌*◌, ◌<◌, ◌≤◌, length, get_or};
+ghost use Rattle.definitions.specs.Cells.{node_words, cells_at, needed, node, new_node, seen};
+ghost use Rattle.definitions.specs.Phases.{row};
+ghost use Rattle.definitions.specs.Damage.{any_of, header_damaged_at, header_damaged, total_tests, arguments_damaged, keeps_node, keeps_new_node, bad_node, bad_time, kept_damaged, running_damaged, worker_damaged, too_many_steps, item_damaged, first_damaged};
+ghost use Rattle.tables.specs.Ranges.{HasRecord, node_outside, kept_at};
 
 use crate::fields::{
     BIRTH, COUNTER, COUNTER_LIMIT, GIVEN_BACK, HANDLE, HEAD, HEADER_WORDS, ITEM, ITEM_WORDS, ITEMS,
@@ -11,52 +12,18 @@ use crate::fields::{
 };
 use crate::nodes;
 use crate::phases::{CLOSING_PHASE, READ_SNAPSHOT, TAKE_SNAPSHOT, V_CAS, V_READ, row_at};
+use crate::sizes::{Sizes, sizes_beyond, words_needed};
 use definitions::PhaseRow;
 
-fn beyond(x: u32, low: u32, high: u32) -> bool
-    ensures { result ≡ outside low high x }
+fn header_beyond(count: usize, sizes: Sizes, counter: u32, items: u32, used: u32, back: u32) -> bool
+    ensures { result ≡ header_damaged_at count sizes.workers sizes.items sizes.nodes sizes.projects sizes.counter counter items used back }
 {
-    (x < low) | (high < x)
-}
-
-// Document 01's ranges of P, M, N, Q and C.
-pub fn sizes_beyond(p: u32, m: u32, n: u32, q: u32, c: u32) -> bool
-    ensures { result ≡ any_of (sizes_outside p m n q c) }
-{
-    beyond(p, 1, 64)
-        | beyond(m, 1, 256)
-        | beyond(n, 1, 4096)
-        | beyond(q, 1, 256)
-        | beyond(c, 1, 4294967294)
-}
-
-// The words that a catalogue of these sizes needs; no 32-bit sizes make it overflow.
-pub fn words_needed(p: u32, m: u32, n: u32) -> u64
-    ensures { result ≡ needed p m n }
-{
-    16 + 16 * (p as u64) + 4 * (m as u64) + (NODE_WORDS as u64) * (n as u64)
-}
-
-fn header_beyond(
-    count: usize,
-    p: u32,
-    m: u32,
-    n: u32,
-    q: u32,
-    c: u32,
-    counter: u32,
-    items: u32,
-    used: u32,
-    back: u32,
-) -> bool
-    ensures { result ≡ header_damaged_at count p m n q c counter items used back }
-{
-    sizes_beyond(p, m, n, q, c)
-        | (c < counter)
-        | (m < items)
-        | (n < used)
+    sizes_beyond(sizes)
+        | (sizes.counter < counter)
+        | (sizes.items < items)
+        | (sizes.nodes < used)
         | (used < back)
-        | ((count as u64) < words_needed(p, m, n))
+        | ((count as u64) < words_needed(sizes))
 }
 
 // The header, and fewer lent words than it needs.
@@ -66,13 +33,16 @@ pub fn header_is_damaged(words: &[u32]) -> bool
     if words.len() < HEADER_WORDS {
         return true;
     }
+    let sizes = Sizes {
+        workers: words[WORKERS],
+        items: words[ITEMS_LIMIT],
+        nodes: words[NODES_LIMIT],
+        projects: words[PROJECTS],
+        counter: words[COUNTER_LIMIT],
+    };
     header_beyond(
         words.len(),
-        words[WORKERS],
-        words[ITEMS_LIMIT],
-        words[NODES_LIMIT],
-        words[PROJECTS],
-        words[COUNTER_LIMIT],
+        sizes,
         words[COUNTER],
         words[ITEMS],
         words[USED],
@@ -87,9 +57,9 @@ pub fn sum_of(high: u32, low: u32) -> u64
     (high as u64) * 4294967296 + (low as u64)
 }
 
-// A total's arguments, in the order of definitions/specs/Damage.antt. Abandon asks this too, by a row of its own.
+// A total's arguments, in the order of definitions/specs/Damage.antt.
 pub fn total_is_damaged(words: &[u32], w: usize, row: PhaseRow) -> bool
-    requires { 16 + 16 * w + 16 ≤ length words.now }
+    requires { HasRecord w words.now }
     ensures { (a b : ℕ) → result ≡ any_of (total_tests row (cells_at a b words.now) w) }
 {
     let at = HEADER_WORDS + WORKER_WORDS * w;
@@ -112,8 +82,10 @@ pub fn total_is_damaged(words: &[u32], w: usize, row: PhaseRow) -> bool
 }
 
 // The arguments of the operation that a record runs. Two operations share a test: of a plain list of numbers a compiler makes an indirect jump.
+// Called, and not in its caller's own code, it would be handed the row in memory.
+#[inline(always)]
 fn arguments_are_damaged(words: &[u32], w: usize, row: PhaseRow) -> bool
-    requires { 16 + 16 * w + 16 ≤ length words.now }
+    requires { HasRecord w words.now }
     ensures { (a b : ℕ) → result ≡ arguments_damaged row (cells_at a b words.now) w }
 {
     let at = HEADER_WORDS + WORKER_WORDS * w;
@@ -135,58 +107,69 @@ fn arguments_are_damaged(words: &[u32], w: usize, row: PhaseRow) -> bool
     total_is_damaged(words, w, row)
 }
 
-// What the record keeps for its lines.
-fn kept_is_damaged(words: &[u32], w: usize, row: PhaseRow) -> bool
-    requires { 16 + 16 * w + 16 ≤ length words.now }
-    ensures { (a b : ℕ) → result ≡ kept_damaged row (cells_at a b words.now) w }
+// The lines whose record keeps the node that was fetched.
+fn line_keeps_node(line: u8) -> bool
+    ensures { result ≡ keeps_node (row 0 line false) }
 {
-    let at = HEADER_WORDS + WORKER_WORDS * w;
-    let line = row.line;
-    (((line == 20)
-        | (line == 21)
-        | (line == 22)
-        | (line == 34)
-        | (line == 39)
-        | (line == 43)
-        | (line == 45)
-        | (line == 46))
-        & (words[USED] <= words[at + NODE]))
-        | (((line == 46) | (line == 50)) & (words[USED] <= words[at + NEW_NODE]))
-        | ((line == 22) & (words[COUNTER] < words[at + SEEN]))
+    matches!(line, 20 | 21 | 22 | 34 | 39 | 43 | 45 | 46)
 }
 
-// The same, by the line's number, and at line 6 the number read at 5: for step, which asks it where the line is known.
+// What the record keeps for a line: the node, the new node, the number read at 21. Each word is asked before the line, since it is seldom out of range.
+fn kept_node_is_damaged(words: &[u32], w: usize, line: u8) -> bool
+    requires { HasRecord w words.now }
+    ensures { (a b : ℕ) → let m = cells_at a b words.now in result ≡ (keeps_node (row 0 line false) && bad_node m (m (node w))) }
+{
+    words[USED] <= words[HEADER_WORDS + WORKER_WORDS * w + NODE] && line_keeps_node(line)
+}
+
+fn kept_new_node_is_damaged(words: &[u32], w: usize, line: u8) -> bool
+    requires { HasRecord w words.now }
+    ensures { (a b : ℕ) → let m = cells_at a b words.now in result ≡ (keeps_new_node (row 0 line false) && bad_node m (m (new_node w))) }
+{
+    words[USED] <= words[HEADER_WORDS + WORKER_WORDS * w + NEW_NODE]
+        && ((line == 46) | (line == 50))
+}
+
+fn kept_time_is_damaged(words: &[u32], w: usize, line: u8) -> bool
+    requires { HasRecord w words.now }
+    ensures { (a b : ℕ) → let m = cells_at a b words.now in result ≡ (eqb line 22 && bad_time m (m (seen w))) }
+{
+    words[COUNTER] < words[HEADER_WORDS + WORKER_WORDS * w + SEEN] && line == 22
+}
+
+fn kept_is_damaged(words: &[u32], w: usize, line: u8) -> bool
+    requires { HasRecord w words.now }
+    ensures { (a b : ℕ) → result ≡ kept_damaged (row 0 line false) (cells_at a b words.now) w }
+{
+    kept_node_is_damaged(words, w, line)
+        | kept_new_node_is_damaged(words, w, line)
+        | kept_time_is_damaged(words, w, line)
+}
+
+// The same, and at line 6 the number read at 5: for step, which asks it where the line is known.
 pub fn kept_at_line_is_damaged(words: &[u32], w: usize, line: u8) -> bool
-    requires { 16 + 16 * w + 16 ≤ length words.now }
+    requires { HasRecord w words.now }
     ensures { (a b : ℕ) → result ≡ kept_at line (cells_at a b words.now) w }
 {
-    let at = HEADER_WORDS + WORKER_WORDS * w;
-    match line {
-        20 => words[USED] <= words[at + NODE],
-        21 => words[USED] <= words[at + NODE],
-        22 => (words[USED] <= words[at + NODE]) | (words[COUNTER] < words[at + SEEN]),
-        34 => words[USED] <= words[at + NODE],
-        39 => words[USED] <= words[at + NODE],
-        43 => words[USED] <= words[at + NODE],
-        45 => words[USED] <= words[at + NODE],
-        46 => (words[USED] <= words[at + NODE]) | (words[USED] <= words[at + NEW_NODE]),
-        50 => words[USED] <= words[at + NEW_NODE],
-        6 => words[COUNTER_LIMIT] <= words[at + SEEN],
-        _ => false,
-    }
+    let seen = words[HEADER_WORDS + WORKER_WORDS * w + SEEN];
+    kept_is_damaged(words, w, line) | ((line == 6) & (words[COUNTER_LIMIT] <= seen))
 }
 
-// A running record, at the table's entry for its phase.
+// A running record, at the table's entry for its phase; in its caller's own code, as above.
+#[inline(always)]
 pub fn running_is_damaged(words: &[u32], w: usize, row: PhaseRow) -> bool
-    requires { 16 + 16 * w + 16 ≤ length words.now }
+    requires { HasRecord w words.now }
     ensures { (a b : ℕ) → result ≡ running_damaged row (cells_at a b words.now) w }
 {
-    arguments_are_damaged(words, w, row) | kept_is_damaged(words, w, row)
+    if arguments_are_damaged(words, w, row) {
+        return true;
+    }
+    kept_is_damaged(words, w, row.line)
 }
 
 // The step count and the arguments, as step asks them: with branches, and called from nowhere else, so that they stand in step's own code.
 pub fn steps_or_arguments_are_damaged(words: &[u32], w: usize, row: PhaseRow) -> bool
-    requires { 16 + 16 * w + 16 ≤ length words.now }
+    requires { HasRecord w words.now }
     ensures { (a b : ℕ) → result ≡ too_many_steps (cells_at a b words.now) w || arguments_damaged row (cells_at a b words.now) w }
 {
     let at = HEADER_WORDS + WORKER_WORDS * w;
@@ -198,7 +181,7 @@ pub fn steps_or_arguments_are_damaged(words: &[u32], w: usize, row: PhaseRow) ->
 
 // A worker's record.
 pub fn worker_is_damaged(words: &[u32], w: usize) -> bool
-    requires { 16 + 16 * w + 16 ≤ length words.now }
+    requires { HasRecord w words.now }
     ensures { (a b : ℕ) → result ≡ worker_damaged (cells_at a b words.now) w }
 {
     let at = HEADER_WORDS + WORKER_WORDS * w;
@@ -245,16 +228,14 @@ pub fn first_is_damaged(words: &[u32], nodes_at: usize) -> bool
     requires { (16 ≤ nodes_at) × (nodes_at + node_words * get_or words.now 2 0 ≤ length words.now) × (get_or words.now 7 0 ≤ get_or words.now 2 0) × (get_or words.now 8 0 ≤ get_or words.now 7 0) }
     ensures { (a : ℕ) → result ≡ first_damaged (cells_at a nodes_at words.now) }
 {
-    let back = words[GIVEN_BACK];
-    if back == 0 {
-        return false;
+    match nodes::first_given_back(words) {
+        None => false,
+        Some(first) => node_is_damaged(
+            &words[nodes_at..],
+            first as usize,
+            words[PROJECTS],
+            words[USED],
+            words[COUNTER],
+        ),
     }
-    let first = (back - 1) as usize;
-    node_is_damaged(
-        &words[nodes_at..],
-        first,
-        words[PROJECTS],
-        words[USED],
-        words[COUNTER],
-    )
 }

@@ -5,3 +5,4 @@ pub mod damage;
 pub mod fields;
 pub mod nodes;
 pub mod phases;
+pub mod sizes;

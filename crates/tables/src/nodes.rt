@@ -1,9 +1,10 @@
 // Functions on the node part of the lent words: the part that starts where the nodes start, handed on and never copied.
-ghost use Rattle.std.specs.Prelude.{◌≡◌, [], ◌∷◌, ◌+◌, ◌*◌, ◌<◌, length, get_or};
+ghost use Rattle.std.specs.Prelude.{◌≡◌, [], ◌∷◌, ◌+◌, ◌*◌, ◌<◌, ◌≤◌, length, get_or};
 ghost use Rattle.definitions.specs.Cells.{node_words};
 ghost use Rattle.tables.specs.Part.{stored, ◌gets◌};
+ghost use Rattle.tables.specs.Ranges.{waiting};
 
-use crate::fields::{NODE_WORDS, OLDER, STAMP, VALUE};
+use crate::fields::{GIVEN_BACK, NODE_WORDS, OLDER, STAMP, VALUE};
 
 // One word of node n.
 pub fn word(nodes: &[u32], n: usize, field: usize) -> u32
@@ -30,4 +31,12 @@ pub fn make(nodes: &mut [u32], n: usize, value: u32, older: u32, stamp: u32)
     nodes[NODE_WORDS * n + VALUE] = value;
     nodes[NODE_WORDS * n + OLDER] = older;
     nodes[NODE_WORDS * n + STAMP] = stamp;
+}
+
+// The first node given back, where one waits: the header has its number plus one.
+pub fn first_given_back(words: &[u32]) -> Option<u32>
+    requires { 9 ≤ length words.now }
+    ensures { result ≡ waiting (get_or words.now 8 0) }
+{
+    words[GIVEN_BACK].checked_sub(1)
 }

@@ -69,66 +69,50 @@ pub fn named_phases() -> [u32; 8]
     ]
 }
 
-// An entry of the table is one number: OPERATION times the operation, the source line, and MAY_ANSWER more where the phase may answer. The compiler builds
-// a constant array on the stack at each look-up, so the smallest form wins: with an array of structs a step takes too long (docs/PERFORMANCE.md).
-const OPERATION: u16 = 256;
-
-const MAY_ANSWER: u16 = 128;
-
-const OF_V_READ: u16 = OPERATION * (V_READ as u16);
-
-const OF_V_CAS: u16 = OPERATION * (V_CAS as u16);
-
-const OF_TAKE_SNAPSHOT: u16 = OPERATION * (TAKE_SNAPSHOT as u16);
-
-const OF_READ_SNAPSHOT: u16 = OPERATION * (READ_SNAPSHOT as u16);
-
-const OF_TOTAL: u16 = OPERATION * (TOTAL as u16);
-
-// Line 0 stands for idle and the closing step.
-const PHASES: [u16; 36] = [
+// Each phase's operation, source line, and whether it may answer; line 0 stands for idle and the closing step.
+static PHASES: [(u8, u8, bool); 36] = [
     // idle
-    0,
+    (0, 0, false),
     // vRead
-    OF_V_READ + 37,
-    OF_V_READ + 20,
-    OF_V_READ + 21,
-    OF_V_READ + 22,
-    OF_V_READ + 39 + MAY_ANSWER,
+    (V_READ, 37, false),
+    (V_READ, 20, false),
+    (V_READ, 21, false),
+    (V_READ, 22, false),
+    (V_READ, 39, true),
     // vCAS
-    OF_V_CAS + 41,
-    OF_V_CAS + 20,
-    OF_V_CAS + 21,
-    OF_V_CAS + 22,
-    OF_V_CAS + 43 + MAY_ANSWER,
-    OF_V_CAS + 45,
-    OF_V_CAS + 46,
-    OF_V_CAS + 20,
-    OF_V_CAS + 21,
-    OF_V_CAS + 22,
-    OF_V_CAS + 48 + MAY_ANSWER,
-    OF_V_CAS + 50,
-    OF_V_CAS + 51,
-    OF_V_CAS + 20,
-    OF_V_CAS + 21,
-    OF_V_CAS + 22,
-    OF_V_CAS + 52 + MAY_ANSWER,
+    (V_CAS, 41, false),
+    (V_CAS, 20, false),
+    (V_CAS, 21, false),
+    (V_CAS, 22, false),
+    (V_CAS, 43, true),
+    (V_CAS, 45, false),
+    (V_CAS, 46, false),
+    (V_CAS, 20, false),
+    (V_CAS, 21, false),
+    (V_CAS, 22, false),
+    (V_CAS, 48, true),
+    (V_CAS, 50, false),
+    (V_CAS, 51, false),
+    (V_CAS, 20, false),
+    (V_CAS, 21, false),
+    (V_CAS, 22, false),
+    (V_CAS, 52, true),
     // takeSnapshot
-    OF_TAKE_SNAPSHOT + 5,
-    OF_TAKE_SNAPSHOT + 6 + MAY_ANSWER,
+    (TAKE_SNAPSHOT, 5, false),
+    (TAKE_SNAPSHOT, 6, true),
     // readSnapshot
-    OF_READ_SNAPSHOT + 32,
-    OF_READ_SNAPSHOT + 20,
-    OF_READ_SNAPSHOT + 21,
-    OF_READ_SNAPSHOT + 22,
-    OF_READ_SNAPSHOT + 34 + MAY_ANSWER,
+    (READ_SNAPSHOT, 32, false),
+    (READ_SNAPSHOT, 20, false),
+    (READ_SNAPSHOT, 21, false),
+    (READ_SNAPSHOT, 22, false),
+    (READ_SNAPSHOT, 34, true),
     // total
-    OF_TOTAL + 32,
-    OF_TOTAL + 20,
-    OF_TOTAL + 21,
-    OF_TOTAL + 22,
-    OF_TOTAL + 34,
-    OF_TOTAL + 0 + MAY_ANSWER,
+    (TOTAL, 32, false),
+    (TOTAL, 20, false),
+    (TOTAL, 21, false),
+    (TOTAL, 22, false),
+    (TOTAL, 34, false),
+    (TOTAL, 0, true),
 ];
 
 // The table's entry at a phase that is known.
@@ -136,12 +120,10 @@ pub fn row_at(phase: usize) -> PhaseRow
     requires { phase < 36 }
     ensures { result ≡ row_of phase }
 {
-    let entry = PHASES[phase];
-    let operation = ((entry / OPERATION) % 8) as u8; // below 8, so it fits a byte
-    let line = (entry % MAY_ANSWER) as u8;
+    let (operation, line, may_answer) = PHASES[phase];
     PhaseRow {
         operation,
         line,
-        may_answer: (entry / MAY_ANSWER) % 2 == 1,
+        may_answer,
     }
 }

@@ -1,17 +1,21 @@
 // The text function of the schedule program: bytes in, answer lines out, by the definitions of specs/.
 #![tactic(auto)]
 
-ghost use Rattle.std.specs.Prelude.{◌≡◌, ◌+◌, ◌*◌, ◌≤◌, length, take, drop};
+ghost use Rattle.std.specs.Prelude.{◌≡◌, ◌+◌, ◌*◌, ◌≤◌, true, false, length, take, MatchOption};
 ghost use Rattle.std.proofs.lemmas.List.Edits.{sets};
-ghost use Rattle.std.proofs.Math.Seq.{paste};
 ghost use Rattle.definitions.specs.Promises.{Done};
+ghost use Rattle.frames.specs.Lines.{has_feed, first_line, after_line};
 ghost use Rattle.frames.specs.Frames.{frame};
 ghost use Rattle.frames.specs.AnswerLines.{answer_length, answer_line};
 ghost use Rattle.text.specs.Replies.{replied};
 ghost use Rattle.text.specs.Feeding.{Feeding, Piece, Last};
 
 use definitions::Answer;
+use endings::reason::{Reason, refuse};
 use frames::{ANSWER_LENGTH, Frame};
+
+// How many bytes are kept of a line that is unfinished: a longer one is no frame, whatever it holds.
+const LONGEST_KEPT: usize = 65;
 
 // How many bytes of the text were taken, and how many of the output were written.
 #[derive(Drop)]
@@ -59,13 +63,7 @@ fn carry_out(words: &mut [u32], frame: Frame) -> Answer
             handle,
         } => calls::start::start_total(words, worker, project, handle),
         Frame::Step { worker } => steps::step(words, worker),
-        Frame::Bad => Answer {
-            code: 29,
-            value: 0,
-            steps: 0,
-            stamped: 0,
-            operator: 0,
-        },
+        Frame::Bad => refuse(Reason::BadFrame),
     }
 }
 
@@ -80,48 +78,33 @@ fn answer_one(line: &[u8], words: &mut [u32], out: &mut [u8], at: usize)
     frames::put_answer(out, at, answer);
 }
 
+// The first line of a text, without its line feed, and the rest after it, where the line has its line feed.
+fn split_line(text: &[u8]) -> Option<(&[u8], &[u8])>
+    ensures { MatchOption result (has_feed text.now ≡ false) (λ parts. (has_feed text.now ≡ true)
+        × (parts.0.now ≡ first_line text.now) × (parts.1.now ≡ after_line text.now)) }
+{
+    let rest = frames::after_line(text);
+    let line = text[..text.len() - rest.len()].strip_suffix(b"\n")?;
+    Some((line, rest))
+}
+
 // Answers whole lines of the text, as many as the output has room for. The rest of the text after a line is that part of the caller's bytes.
 pub fn answer_lines(text: &[u8], words: &mut [u32], out: &mut [u8]) -> Fed
     ensures { Feeding text.now words.old out.old result words.new out.new }
 {
     let mut left = text;
-    let mut at = 0;
-    let mut room = out.len() / ANSWER_LENGTH;
-    while room > 0 {
-        let rest = frames::after_line(left);
-        let n = left.len() - rest.len();
-        if n == 0 {
-            return Fed {
-                used: text.len() - left.len(),
-                written: at,
-            };
-        }
-        if left[n - 1] != 10 {
-            return Fed {
-                used: text.len() - left.len(),
-                written: at,
-            };
-        }
-        answer_one(&left[..n - 1], words, out, at);
-        at += ANSWER_LENGTH;
-        room -= 1;
+    let mut written = 0;
+    for _ in 0..out.len() / ANSWER_LENGTH {
+        let Some((line, rest)) = split_line(left) else {
+            break;
+        };
+        answer_one(line, words, out, written);
+        written += ANSWER_LENGTH;
         left = rest;
     }
     Fed {
         used: text.len() - left.len(),
-        written: at,
-    }
-}
-
-// Moves a part of the text to its front.
-fn to_front(text: &mut [u8], from: usize, count: usize)
-    requires { from + count ≤ length text.old }
-    ensures { text.new ≡ paste text.old 0 (drop from text.old) count }
-{
-    let mut k = 0;
-    while k < count {
-        text[k] = text[from + k];
-        k += 1;
+        written,
     }
 }
 
@@ -130,19 +113,10 @@ pub fn answer_piece(text: &mut [u8], count: usize, words: &mut [u32], out: &mut 
     requires { (count ≤ length text.old) × (answer_length * length text.old ≤ length out.old) }
     ensures { Piece (take count text.old) words.old out.old result text.new words.new out.new }
 {
-    let fed = answer_lines(&text[..count], words, out);
-    let used = fed.used;
-    let written = fed.written;
-    let left = count - used;
-    if 65 < left {
-        to_front(text, used, 65);
-        return Kept { held: 65, written };
-    }
-    to_front(text, used, left);
-    Kept {
-        held: left,
-        written,
-    }
+    let Fed { used, written } = answer_lines(&text[..count], words, out);
+    let held = (count - used).min(LONGEST_KEPT);
+    text.copy_within(used..used + held, 0);
+    Kept { held, written }
 }
 
 // Answers what is left at the end of the input: a last line may lack its line feed.
@@ -150,7 +124,7 @@ pub fn answer_last(text: &[u8], words: &mut [u32], out: &mut [u8]) -> usize
     requires { answer_length ≤ length out.old }
     ensures { Last text.now words.old out.old result words.new out.new }
 {
-    if text.len() == 0 {
+    if text.is_empty() {
         return 0;
     }
     answer_one(text, words, out, 0);

@@ -3,10 +3,11 @@ ghost use Rattle.std.specs.Prelude.{◌≡◌, ◌+◌, ◌*◌, ◌<◌, length
 ghost use Rattle.definitions.specs.Cells.{node_words, cells_at};
 ghost use Rattle.definitions.specs.Lines.{to_older};
 ghost use Rattle.definitions.specs.Promises.{Met};
-ghost use Rattle.endings.specs.Stepped.{Ready, HasNode, HasOlder, node_tested};
+ghost use Rattle.endings.specs.Stepped.{ReadyAt, HasNode, HasOlder, node_tested};
 
 use definitions::Answer;
 use endings::go_on;
+use endings::site::Site;
 use tables::fields::{HEADER_WORDS, NODE, OLDER, PHASE, STAMP, STEPS, VALUE, WORKER_WORDS};
 use tables::nodes;
 
@@ -32,15 +33,15 @@ pub fn tested_is_damaged(
 }
 
 // A stamp above the handle leads to the older node, in readSnapshot and in total.
-pub fn go_to_older(words: &mut [u32], items_at: usize, nodes_at: usize, w: usize) -> Answer
-    requires { Ready items_at nodes_at w words.old × HasNode w words.old × HasOlder items_at nodes_at w words.old }
-    ensures { Met items_at nodes_at words.old (to_older (cells_at items_at nodes_at words.old) w) result words.new }
+pub fn go_to_older(words: &mut [u32], site: Site) -> Answer
+    requires { ReadyAt site words.old × HasNode site.worker words.old × HasOlder site.items_at site.nodes_at site.worker words.old }
+    ensures { Met site.items_at site.nodes_at words.old (to_older (cells_at site.items_at site.nodes_at words.old) site.worker) result words.new }
 {
-    let at = HEADER_WORDS + WORKER_WORDS * w;
+    let at = HEADER_WORDS + WORKER_WORDS * site.worker;
     let phase = words[at + PHASE];
     let steps = words[at + STEPS];
     let n = words[at + NODE] as usize;
-    let older = nodes::word(&words[nodes_at..], n, OLDER);
+    let older = nodes::word(&words[site.nodes_at..], n, OLDER);
     words[at + NODE] = older - 1;
-    go_on(words, w, phase, steps)
+    go_on(words, site.worker, phase, steps)
 }

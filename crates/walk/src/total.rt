@@ -2,11 +2,15 @@
 ghost use Rattle.std.specs.Prelude.{◌≡◌, cond, ◌+◌, ◌*◌, ◌<◌, ◌≤◌, eqb, length, get_or};
 ghost use Rattle.definitions.specs.Answers.{running};
 ghost use Rattle.definitions.specs.Lines.{line, no_words, tested_node, line_34, total_32, total_34, closing};
-ghost use Rattle.endings.specs.Stepped.{Steps, Ready, InItem, HasNode, moved_on, SmallSum, item_added};
+ghost use Rattle.tables.specs.Ranges.{HasRecord};
+ghost use Rattle.endings.specs.Ended.{answered};
+ghost use Rattle.endings.specs.Stepped.{StepsAt, ReadyAt, InItem, HasNode, moved_on, SmallSum, item_added};
 
 use crate::snapshot::{go_to_older, tested_is_damaged};
 use definitions::Answer;
-use endings::{finish, go_on, refuse};
+use endings::reason::Reason;
+use endings::site::Site;
+use endings::{finish, go_on};
 use tables::damage::sum_of;
 use tables::fields::{
     BIRTH, COUNTER, HANDLE, HEAD, HEADER_WORDS, ITEM, ITEM_WORDS, NODE, NOTED, PHASE, PROJECT,
@@ -17,7 +21,7 @@ use tables::phases::{CLOSING_PHASE, TOTAL, TOTAL_START};
 
 // A total goes on at its next item, or at its closing step.
 fn go_to_place(words: &mut [u32], w: usize, place: u32, noted: u32, steps: u32) -> Answer
-    requires { (16 + 16 * w + 16 ≤ length words.old) × (steps < 5121) }
+    requires { HasRecord w words.old × (steps < 5121) }
     ensures { (result ≡ running (steps + 1)) × (words.new ≡ moved_on words.old w (cond (eqb place noted) 35 30) (steps + 1)) }
 {
     if place == noted {
@@ -27,22 +31,22 @@ fn go_to_place(words: &mut [u32], w: usize, place: u32, noted: u32, steps: u32) 
 }
 
 // A total's line 32: an item born after the handle is passed over.
-pub fn total_32(words: &mut [u32], items_at: usize, nodes_at: usize, w: usize) -> Answer
-    requires { Ready items_at nodes_at w words.old × InItem w words.old }
-    ensures { Steps (line no_words total_32) items_at nodes_at w words.old result words.new }
+pub fn total_32(words: &mut [u32], site: Site) -> Answer
+    requires { ReadyAt site words.old × InItem site.worker words.old }
+    ensures { StepsAt (line no_words total_32) site words.old result words.new }
 {
-    let at = HEADER_WORDS + WORKER_WORDS * w;
+    let at = HEADER_WORDS + WORKER_WORDS * site.worker;
     let phase = words[at + PHASE];
     let steps = words[at + STEPS];
     let item = words[at + ITEM];
     let i = item as usize;
-    if words[at + HANDLE] < words[items_at + ITEM_WORDS * i + BIRTH] {
+    if words[at + HANDLE] < words[site.items_at + ITEM_WORDS * i + BIRTH] {
         let noted = words[at + NOTED];
         words[at + ITEM] = item + 1;
-        return go_to_place(words, w, item + 1, noted, steps);
+        return go_to_place(words, site.worker, item + 1, noted, steps);
     }
-    words[at + NODE] = words[items_at + ITEM_WORDS * i + HEAD];
-    go_on(words, w, phase + 1, steps)
+    words[at + NODE] = words[site.items_at + ITEM_WORDS * i + HEAD];
+    go_on(words, site.worker, phase + 1, steps)
 }
 
 // The sum, with the item's size where its value is the total's project.
@@ -58,7 +62,7 @@ fn sum_with(sum: u64, value: u32, project: u32, size: u32) -> u64
 
 // The item's part of the sum, and the way on to the next item.
 fn add_item(words: &mut [u32], items_at: usize, w: usize, value: u32, steps: u32) -> Answer
-    requires { (16 + 16 * w + 16 ≤ length words.old) × (items_at + 4 * get_or words.old (16 + 16 * w + 2) 0 + 4 ≤ length words.old) × SmallSum w words.old × (steps < 5121) × (get_or words.old (16 + 16 * w + 2) 0 < 256) }
+    requires { HasRecord w words.old × (items_at + 4 * get_or words.old (16 + 16 * w + 2) 0 + 4 ≤ length words.old) × SmallSum w words.old × (steps < 5121) × (get_or words.old (16 + 16 * w + 2) 0 < 256) }
     ensures { (result ≡ running (steps + 1)) × (words.new ≡ item_added items_at w value steps words.old) }
 {
     let at = HEADER_WORDS + WORKER_WORDS * w;
@@ -79,48 +83,42 @@ fn add_item(words: &mut [u32], items_at: usize, w: usize, value: u32, steps: u32
 }
 
 // Line 34: a stamp above the handle leads to the older node. At any other, readSnapshot answers the value, and total adds the item's size.
-pub fn line_34(
-    words: &mut [u32],
-    items_at: usize,
-    nodes_at: usize,
-    w: usize,
-    operation: u8,
-) -> Answer
-    requires { Ready items_at nodes_at w words.old × InItem w words.old × HasNode w words.old × (operation ≡ 5 → SmallSum w words.old) }
-    ensures { Steps (cond (eqb operation 5) (line tested_node total_34) (line tested_node line_34)) items_at nodes_at w words.old result words.new }
+pub fn line_34(words: &mut [u32], site: Site, operation: u8) -> Result<Answer, Reason>
+    requires { ReadyAt site words.old × InItem site.worker words.old × HasNode site.worker words.old × (operation ≡ 5 → SmallSum site.worker words.old) }
+    ensures { StepsAt (cond (eqb operation 5) (line tested_node total_34) (line tested_node line_34)) site words.old (answered result) words.new }
 {
-    let at = HEADER_WORDS + WORKER_WORDS * w;
+    let at = HEADER_WORDS + WORKER_WORDS * site.worker;
     let steps = words[at + STEPS];
     let n = words[at + NODE] as usize;
     let handle = words[at + HANDLE];
     if tested_is_damaged(
-        &words[nodes_at..],
+        &words[site.nodes_at..],
         n,
         handle,
         words[PROJECTS],
         words[USED],
         words[COUNTER],
     ) {
-        return refuse(2);
+        return Err(Reason::Damaged);
     }
-    let stamp = nodes::word(&words[nodes_at..], n, STAMP);
+    let stamp = nodes::word(&words[site.nodes_at..], n, STAMP);
     if handle < stamp { // the version is too new
-        return go_to_older(words, items_at, nodes_at, w);
+        return Ok(go_to_older(words, site));
     }
-    let value = nodes::word(&words[nodes_at..], n, VALUE);
+    let value = nodes::word(&words[site.nodes_at..], n, VALUE);
     if operation == TOTAL {
-        return add_item(words, items_at, w, value, steps);
+        return Ok(add_item(words, site.items_at, site.worker, value, steps));
     }
-    finish(words, w, value as u64, steps)
+    Ok(finish(words, site.worker, value as u64, steps))
 }
 
 // A total's closing step: the sum is answered.
-pub fn closing_step(words: &mut [u32], items_at: usize, nodes_at: usize, w: usize) -> Answer
-    requires { Ready items_at nodes_at w words.old }
-    ensures { Steps (line no_words closing) items_at nodes_at w words.old result words.new }
+pub fn closing_step(words: &mut [u32], site: Site) -> Answer
+    requires { ReadyAt site words.old }
+    ensures { StepsAt (line no_words closing) site words.old result words.new }
 {
-    let at = HEADER_WORDS + WORKER_WORDS * w;
+    let at = HEADER_WORDS + WORKER_WORDS * site.worker;
     let steps = words[at + STEPS];
     let sum = sum_of(words[at + SUM_HIGH], words[at + SUM_LOW]);
-    finish(words, w, sum, steps)
+    finish(words, site.worker, sum, steps)
 }

@@ -1,4 +1,4 @@
-use mathlib.Core.Path.{◌≡◌, sym, ◌∙◌}
+use mathlib.Core.Path.{refl, ◌≡◌, sym, ◌∙◌}
 use mathlib.Core.Bool.{◌&&◌}
 use mathlib.Core.List.{List, [], ◌∷◌, ◌++◌}
 use Prim.Native.Nat.{ℕ}
@@ -29,23 +29,23 @@ past_tests ws w known sound busy d = met_else _ known (met_else _ sound (met_els
 
 pub returns-then-words-worker : goal.returns-then-words-worker
 unfolding abandoning
-returns-then-words-worker c = met_if _ (le-leb _ _ c.if-words-worker.true) (refuses 3 c.refuse.ensures)
+returns-then-words-worker c = met_if _ (le-leb _ _ c.if-words-worker.true) (refuses 3 refl)
 
 pub returns-then-phase-gt-CLOSING_PHASE : goal.returns-then-phase-gt-CLOSING_PHASE
 unfolding abandoning
 returns-then-phase-gt-CLOSING_PHASE c = let x = c.args in
-    met_else _ (lt-leb _ _ c.if-words-worker.false) (met_if _ (unknown_phase (cells_of x.words.now) x.worker c.if-phase-gt-CLOSING_PHASE.true) (refuses 2 c.refuse-then-phase-gt-CLOSING_PHASE.ensures))
+    met_else _ (lt-leb _ _ c.if-words-worker.false) (met_if _ (unknown_phase (cells_of x.words.now) x.worker c.if-phase-gt-CLOSING_PHASE.true) (refuses 2 refl))
 
 pub returns-then-phase-eq0 : goal.returns-then-phase-eq0
 unfolding abandoning
 returns-then-phase-eq0 c = let x = c.args in
-    met_else _ (lt-leb _ _ c.if-words-worker.false) (met_else _ (idle_sound (cells_of x.words.now) x.worker c.if-phase-eq0.true) (met_if _ (eq-eqb _ _ c.if-phase-eq0.true) (refuses 5 c.refuse-then-phase-eq0.ensures)))
+    met_else _ (lt-leb _ _ c.if-words-worker.false) (met_else _ (idle_sound (cells_of x.words.now) x.worker c.if-phase-eq0.true) (met_if _ (eq-eqb _ _ c.if-phase-eq0.true) (refuses 5 refl)))
 
 pub returns-then-record_is_damaged : goal.returns-then-record_is_damaged
 unfolding abandoning
 returns-then-record_is_damaged c = let x = c.args in let ws = x.words.now in
     met_else _ (lt-leb _ _ c.if-words-worker.false)
-    (met_if _ (damage_told (cells_of ws) x.worker c.if-phase-gt-CLOSING_PHASE.false c.if-phase-eq0.false (c.record_is_damaged.ensures (items_offset ws) (nodes_offset ws)) c.if-record_is_damaged.true) (refuses 2 c.refuse-then-record_is_damaged.ensures))
+    (met_if _ (damage_told (cells_of ws) x.worker c.if-phase-gt-CLOSING_PHASE.false c.if-phase-eq0.false (c.record_is_damaged.ensures (items_offset ws) (nodes_offset ws)) c.if-record_is_damaged.true) (refuses 2 refl))
 
 pub abandon_holding-requires : goal.abandon_holding-requires
 abandon_holding-requires c = let x = c.args in let ws = x.words.now in

@@ -1,4 +1,4 @@
-use mathlib.Core.Path.{◌∙◌, ap, sym}
+use mathlib.Core.Path.{refl, ◌∙◌, ap, sym}
 use mathlib.Core.List.{List}
 use Prim.Native.Nat.{ℕ, ◌+◌, ◌*◌}
 use lib.ListN.{get_or}
@@ -9,15 +9,15 @@ use Rattle.change.proofs.line_50.Goals as goal
 
 pub returns-then-returned_is_damaged : goal.returns-then-returned_is_damaged
 unfolding line_50
-returns-then-returned_is_damaged c = met_if _ (sym (c.returned_is_damaged.ensures c.args.items_at) ∙ c.if-returned_is_damaged.true) (refuses 2 c.refuse.ensures)
+returns-then-returned_is_damaged c = met_if _ (sym (c.returned_is_damaged.ensures c.args.site.items_at) ∙ c.if-returned_is_damaged.true) (refuses 2 refl)
 
 pub returns : goal.returns
 unfolding line_50
 returns c = let x = c.args in let ws = x.words.now in
-    met_else _ (sym (c.returned_is_damaged.ensures x.items_at) ∙ c.if-returned_is_damaged.false)
+    met_else _ (sym (c.returned_is_damaged.ensures x.site.items_at) ∙ c.if-returned_is_damaged.false)
     (record {
       answers = c.go_on.ensures.0;
       leaves =
           c.go_on.ensures.1
-          ∙ ap (λ (l : List ℕ). moved_on l x.w (get_or ws (16 + 16 * x.w + 0) 0 + 1) (get_or ws (16 + 16 * x.w + 1) 0 + 1)) (c.give_back.ensures x.items_at);
+          ∙ ap (λ (l : List ℕ). moved_on l x.site.worker (get_or ws (16 + 16 * x.site.worker + 0) 0 + 1) (get_or ws (16 + 16 * x.site.worker + 1) 0 + 1)) (c.give_back.ensures x.site.items_at);
     })

@@ -36,4 +36,4 @@ returns-in-Step c = rw c.in-Step.is c.step.ensures
 
 pub returns-in-Bad : goal.returns-in-Bad
 unfolding replied
-returns-in-Bad c = rw c.in-Bad.is (record { answers = refl; leaves = refl })
+returns-in-Bad c = rw c.in-Bad.is (record { answers = c.refuse.ensures; leaves = refl })

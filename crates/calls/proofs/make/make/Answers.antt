@@ -9,6 +9,7 @@ use Rattle.definitions.specs.Damage.{any_of, sizes_outside}
 use Rattle.definitions.specs.Calls.{outcome, making}
 use Rattle.tables.specs.Ranges.{some_of}
 use Rattle.facts.specs.Refusals.{done_if, done_else}
+use Rattle.std.proofs.lemmas.List.{length-take-le}
 use Rattle.calls.specs.Zeros.{sizes_written}
 use native.Mathlib.Omega.{arith}
 use Rattle.calls.proofs.make.make.Goals as goal
@@ -30,4 +31,4 @@ unfolding outcome making
 returns c = let x = c.args in let ws = x.words.now in let k = needed x.workers x.items x.nodes in
     let e = c.words_needed-needed.ensures in
     done_else _ (neither (any_of (sizes_outside x.workers x.items x.nodes x.projects x.counter)) (ltb (length ws) k) (sym c.sizes_beyond.ensures ∙ c.if-sizes_beyond.false) (le-ltb (length ws) k (rw e at c.if-words-needed.false)))
-    (record { answers = refl; leaves = rw (c.clear.ensures, e) (sizes_written k (drop k ws) x.workers x.items x.nodes x.projects x.counter (omega arith)) })
+    (record { answers = c.accept.ensures; leaves = rw (c.fill.ensures.after (λ y h. h), length-take-le c.words_needed-needed.result ws c.if-words-needed.false, e) (sizes_written k (drop k ws) x.workers x.items x.nodes x.projects x.counter (omega arith)) })

@@ -14,4 +14,4 @@ register_sound-requires c = header_sound _ (sym c.header_is_damaged.ensures ∙ 
 
 pub returns : goal.returns
 unfolding outcome
-returns c = done (met_else _ (sym c.header_is_damaged.ensures ∙ c.if-header_is_damaged.false) c.register_sound.ensures)
+returns c = rw c.answer_of.ensures (done (met_else _ (sym c.header_is_damaged.ensures ∙ c.if-header_is_damaged.false) c.register_sound.ensures))

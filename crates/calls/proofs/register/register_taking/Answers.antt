@@ -1,4 +1,3 @@
-use mathlib.Core.Path.{refl}
 use mathlib.Core.List.{[], ◌∷◌}
 use Prim.Native.Nat.{ℕ, ◌+◌, ◌*◌}
 use lib.ListN.{get_or, length-take, length-drop}
@@ -19,7 +18,7 @@ pub returns : goal.returns
 returns c = let x = c.args in let ws = x.words.now in let a = items_offset ws in let b = nodes_offset ws in let m = cells_of ws in let t = c.next_node-taken.result in
     let f = write_part c.take_node.new.words b ((node_words * t + 0) gets x.value ∷ (node_words * t + 1) gets 0 ∷ (node_words * t + 2) gets get_or ws 5 0 ∷ []) c.make.ensures in
     record {
-      answers = refl;
+      answers = c.accept.ensures;
       leaves = taken_then a b ws (taking m) (λ (n : ℕ). value n ≔ x.value ∷ older n ≔ 0 ∷ stamp n ≔ m counter ∷ head (m items) ≔ n ∷ birth (m items) ≔ m counter ∷ size (m items) ≔ x.size ∷ items ≔ (m items + 1) ∷ [])
           (c.take_node.ensures a) (c.next_node-taken.ensures a b) (rw f);
     }

@@ -1,33 +1,17 @@
-use mathlib.Core.Path.{◌≡◌, refl}
-use mathlib.Core.Bool.{cond}
-use mathlib.Core.List.{List, [], ◌∷◌}
-use Prim.Native.Nat.{ℕ, zero, suc, ◌+◌, ◌*◌, ◌/◌, ◌%◌}
-use lib.Dec.{eqb}
-use lib.ListN.{get_or}
+use Rattle.std.specs.Prelude.{Bool, false, ℕ}
+use Rattle.std.proofs.Common.{ap}
+use Rattle.std.proofs.Math.ListN.{get_or-map}
 use Rattle.definitions.specs.declared.PhaseRow.{PhaseRow}
 use Rattle.definitions.specs.Phases.{table, row, row_of}
 use Rattle.tables.proofs.phases.row_at.Goals as goal
 
--- What a packed entry stands for, and a whole list of them.
+-- A row of the definitions' table as the code's table has it, and back.
+abbrev as_entry : PhaseRow → ℕ × ℕ × Bool
+as_entry r = (r.operation, r.line, r.may_answer)
 
-abbrev unpacked : ℕ → PhaseRow
-unpacked e = row (e / 256 % 8) (e % 128) (eqb (e / 128 % 2) 1)
-
-abbrev all_unpacked : List ℕ → List PhaseRow
-all_unpacked [] = []
-all_unpacked (e ∷ es) = unpacked e ∷ all_unpacked es
-
-entry : (es : List ℕ) (k : ℕ) → unpacked (get_or es k 0) ≡ get_or (all_unpacked es) k (unpacked 0)
-entry [] k = refl
-entry (e ∷ es) zero = refl
-entry (e ∷ es) (suc k) = entry es k
-
--- The definitions' table as the code has it.
-
-abbrev all_packed : List PhaseRow → List ℕ
-all_packed [] = []
-all_packed (r ∷ rs) = (256 * r.operation + r.line + cond r.may_answer 128 0) ∷ all_packed rs
+abbrev as_row : ℕ × ℕ × Bool → PhaseRow
+as_row e = row e.0 e.1 e.2
 
 pub returns : goal.returns
 unfolding table row_of
-returns c = entry (all_packed table) c.args.phase
+returns c = ap as_row (get_or-map as_entry table c.args.phase (row 0 0 false))
