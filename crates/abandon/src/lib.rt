@@ -22,7 +22,8 @@ use endings::accept;
 use endings::reason::{Reason, answer_of, refuse};
 use endings::record::{IDLE, write_record};
 use tables::damage::header_is_damaged;
-use tables::fields::{HEADER_WORDS, ITEM_WORDS, ITEMS_LIMIT, PHASE, WORKER_WORDS, WORKERS};
+use tables::fields::{HEADER_WORDS, PHASE, WORKER_WORDS, WORKERS};
+use tables::offsets::nodes_offset;
 use tables::phases::CLOSING_PHASE;
 
 // The worker is idle.
@@ -34,7 +35,7 @@ fn clear(words: &mut [u32], w: usize) -> Answer
     accept(0)
 }
 
-// Abandon of a worker that holds a node: where its words are damaged, nothing changes.
+// Abandon of a worker that holds a node: where its words are damaged, nothing changes. No Site: where the items start is not asked.
 fn abandon_holding(words: &mut [u32], nodes_at: usize, w: usize) -> Result<Answer, Reason>
     requires { CanReturn nodes_at w words.old }
     ensures { (a : ℕ) → Met a nodes_at words.old
@@ -68,15 +69,13 @@ fn abandon_sound(words: &mut [u32], worker: u32) -> Result<Answer, Reason>
         return Err(Reason::Damaged);
     }
     if holds_node(phase) {
-        let nodes_at = HEADER_WORDS
-            + WORKER_WORDS * (words[WORKERS] as usize)
-            + ITEM_WORDS * (words[ITEMS_LIMIT] as usize);
+        let nodes_at = nodes_offset(words);
         return abandon_holding(words, nodes_at, w);
     }
     Ok(clear(words, w))
 }
 
-// Abandon of a worker, on any words.
+// Abandon of a worker, on any words. Register and step begin so too; what follows differs, and a closure for it is no plainer.
 pub fn abandon(words: &mut [u32], worker: u32) -> Answer
     ensures { Done (outcome words.old (abandon worker)) result words.new }
 {

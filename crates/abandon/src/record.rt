@@ -8,7 +8,8 @@ ghost use Rattle.definitions.specs.Damage.{keeps_new_node, running_damaged};
 use tables::damage::running_is_damaged;
 use tables::phases::row_at;
 
-// Before line 46, which publishes the new node, and before line 50, which gives it back.
+// Before line 46, which publishes the new node, and before line 50, which gives it back. Not matches!: an abandon of a total then took 1.13 of the time of
+// its twin in C (the bar is 1.10).
 pub fn holds_node(phase: u32) -> bool
     requires { phase < 36 }
     ensures { result ≡ keeps_new_node (row_of phase) }

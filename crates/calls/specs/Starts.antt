@@ -1,10 +1,11 @@
 -- What a start comes to: it is refused, or the record that it writes for its worker.
-use Rattle.std.specs.Prelude.{ℕ, ◌+◌, ◌*◌, ◌<◌, ◌≤◌, ◌≡◌, ⊤, Ok, Err, None, Some, List, ◌++◌, get_or, length}
+use Rattle.std.specs.Prelude.{ℕ, ◌<◌, ◌≡◌, ⊤, Ok, Err, None, Some, List, ◌++◌, get_or}
 use Rattle.std.specs.Prelude.{Result as Tested}
 use Rattle.std.proofs.Common.{ap, leb-false, arith}
 use Rattle.definitions.specs.Cells.{cells_of}
 use Rattle.definitions.specs.Answers.{Outcome, Refusal, unless, refused, accepts}
 use Rattle.definitions.specs.Calls.{Call, Result, leaving, outcome, sound_item}
+use Rattle.tables.specs.Ranges.{HasRecord}
 use Rattle.endings.specs.declared.reason.Reason.{Reason}
 use Rattle.endings.specs.declared.record.Record.{Record}
 use Rattle.endings.specs.Ended.{number_of, assigned}
@@ -17,7 +18,7 @@ begun w (Err r) = refused (number_of r)
 
 -- A record that is to be written has its place.
 abbrev pub HasRoom : List ℕ → ℕ → Tested Record Reason → Type 0
-HasRoom ws w (Ok fields) = 16 + 16 * w + 16 ≤ length ws
+HasRoom ws w (Ok fields) = HasRecord w ws
 HasRoom ws w (Err r) = ⊤
 
 -- What the tests of a start came to is what the call comes to.
@@ -32,7 +33,7 @@ module _ (ws : List ℕ) (w : ℕ) (e : first_of (worker_refusals ws w) ≡ None
   pub worker_there : w < get_or ws 0 0
   worker_there = leb-false (get_or ws 0 0) w (first_none (worker_refusals ws w) 1 e)
 
-  pub has_room : 16 + 16 * w + 16 ≤ length ws
+  pub has_room : HasRecord w ws
   has_room = omega (arith, header_there, worker_there)
 
 pub registered_item : (ws : List ℕ) (i : ℕ) → first_of (sound_item (cells_of ws) i) ≡ None → i < get_or ws 6 0

@@ -12,11 +12,9 @@ use definitions::Answer;
 use endings::accept;
 use endings::reason::{Reason, answer_of, refuse};
 use tables::damage::{first_is_damaged, header_is_damaged};
-use tables::fields::{
-    BIRTH, COUNTER, HEAD, HEADER_WORDS, ITEM_WORDS, ITEMS, ITEMS_LIMIT, PROJECTS, SIZE,
-    WORKER_WORDS, WORKERS,
-};
+use tables::fields::{BIRTH, COUNTER, HEAD, ITEM_WORDS, ITEMS, ITEMS_LIMIT, PROJECTS, SIZE};
 use tables::nodes;
+use tables::offsets::{items_offset, nodes_offset};
 use take::{next_node, none_left, take_node};
 
 // The item and its first node, once a node is known to be left, and sound where it was given back.
@@ -24,8 +22,8 @@ fn register_taking(words: &mut [u32], value: u32, size: u32) -> Answer
     requires { Header words.old × (get_or words.old 6 0 < get_or words.old 1 0) × CanTake (nodes_offset words.old) words.old }
     ensures { Met (items_offset words.old) (nodes_offset words.old) words.old (registered (cells_of words.old) value size) result words.new }
 {
-    let items_at = HEADER_WORDS + WORKER_WORDS * (words[WORKERS] as usize);
-    let nodes_at = items_at + ITEM_WORDS * (words[ITEMS_LIMIT] as usize);
+    let items_at = items_offset(words);
+    let nodes_at = nodes_offset(words);
     let item = words[ITEMS];
     let counter = words[COUNTER];
     let at = items_at + ITEM_WORDS * (item as usize);
@@ -53,16 +51,14 @@ fn register_sound(words: &mut [u32], value: u32, size: u32) -> Result<Answer, Re
     if none_left(words) {
         return Err(Reason::NodesFull);
     }
-    let nodes_at = HEADER_WORDS
-        + WORKER_WORDS * (words[WORKERS] as usize)
-        + ITEM_WORDS * (words[ITEMS_LIMIT] as usize);
+    let nodes_at = nodes_offset(words);
     if first_is_damaged(words, nodes_at) {
         return Err(Reason::Damaged);
     }
     Ok(register_taking(words, value, size))
 }
 
-// Register, on any words.
+// Register, on any words. Step and abandon begin so too; what follows differs, and a closure for it is no plainer.
 pub fn register(words: &mut [u32], value: u32, size: u32) -> Answer
     ensures { Done (outcome words.old (register value size)) result words.new }
 {

@@ -19,6 +19,7 @@ use tables::damage::{header_is_damaged, item_is_damaged, worker_is_damaged};
 use tables::fields::{
     BIRTH, COUNTER, HEADER_WORDS, ITEM_WORDS, ITEMS, PHASE, PROJECTS, WORKER_WORDS, WORKERS,
 };
+use tables::offsets::items_offset;
 use tables::phases::{
     CLOSING_PHASE, READ_SNAPSHOT_START, TAKE_SNAPSHOT_START, TOTAL_START, V_CAS_START, V_READ_START,
 };
@@ -38,7 +39,7 @@ fn busy_reason(words: &[u32], w: usize) -> Reason
 
 // The worker is there and idle in a sound catalogue. An idle record is not tested for damage: it has none.
 #[inline(always)]
-fn idle_worker(words: &[u32], worker: u32) -> Result<(), Reason>
+fn check_idle(words: &[u32], worker: u32) -> Result<(), Reason>
     ensures { Passes (worker_refusals words.now worker) result }
 {
     if header_is_damaged(words) {
@@ -55,15 +56,14 @@ fn idle_worker(words: &[u32], worker: u32) -> Result<(), Reason>
 }
 
 // The item is registered, and its record is sound.
-fn sound_item(words: &[u32], item: u32) -> Result<(), Reason>
+fn check_item(words: &[u32], item: u32) -> Result<(), Reason>
     requires { Header words.now }
     ensures { Passes (sound_item (cells_of words.now) item) result }
 {
     if words[ITEMS] <= item {
         return Err(Reason::NoItem);
     }
-    let items_at = HEADER_WORDS + WORKER_WORDS * (words[WORKERS] as usize);
-    if item_is_damaged(words, items_at, item as usize) {
+    if item_is_damaged(words, items_offset(words), item as usize) {
         return Err(Reason::Damaged);
     }
     Ok(())
@@ -86,8 +86,8 @@ fn begin(words: &mut [u32], worker: u32, tested: Result<Record, Reason>) -> Answ
 fn vread_record(words: &[u32], worker: u32, item: u32) -> Result<Record, Reason>
     ensures { Begins words.now worker (v_read worker item) result }
 {
-    idle_worker(words, worker)?;
-    sound_item(words, item)?;
+    check_idle(words, worker)?;
+    check_item(words, item)?;
     Ok(Record {
         phase: V_READ_START,
         item,
@@ -105,8 +105,8 @@ pub fn start_vread(words: &mut [u32], worker: u32, item: u32) -> Answer
 fn vcas_record(words: &[u32], worker: u32, item: u32, old: u32, new: u32) -> Result<Record, Reason>
     ensures { Begins words.now worker (v_cas worker item old new) result }
 {
-    idle_worker(words, worker)?;
-    sound_item(words, item)?;
+    check_idle(words, worker)?;
+    check_item(words, item)?;
     if (words[PROJECTS] <= old) | (words[PROJECTS] <= new) {
         return Err(Reason::NoProject);
     }
@@ -129,7 +129,7 @@ pub fn start_vcas(words: &mut [u32], worker: u32, item: u32, old: u32, new: u32)
 fn take_snapshot_record(words: &[u32], worker: u32) -> Result<Record, Reason>
     ensures { Begins words.now worker (take_snapshot worker) result }
 {
-    idle_worker(words, worker)?;
+    check_idle(words, worker)?;
     Ok(Record {
         phase: TAKE_SNAPSHOT_START,
         ..IDLE
@@ -151,12 +151,12 @@ fn read_snapshot_record(
 ) -> Result<Record, Reason>
     ensures { Begins words.now worker (read_snapshot worker item handle) result }
 {
-    idle_worker(words, worker)?;
-    sound_item(words, item)?;
+    check_idle(words, worker)?;
+    check_item(words, item)?;
     if words[COUNTER] <= handle {
         return Err(Reason::NoHandle);
     }
-    let items_at = HEADER_WORDS + WORKER_WORDS * (words[WORKERS] as usize);
+    let items_at = items_offset(words);
     if handle < words[items_at + ITEM_WORDS * (item as usize) + BIRTH] {
         return Err(Reason::BornLater);
     }
@@ -179,7 +179,7 @@ pub fn start_read_snapshot(words: &mut [u32], worker: u32, item: u32, handle: u3
 fn total_record(words: &[u32], worker: u32, project: u32, handle: u32) -> Result<Record, Reason>
     ensures { Begins words.now worker (total worker project handle) result }
 {
-    idle_worker(words, worker)?;
+    check_idle(words, worker)?;
     if words[PROJECTS] <= project {
         return Err(Reason::NoProject);
     }

@@ -17,11 +17,11 @@ use definitions::Answer;
 use steps::step;
 
 // What a call answered, in the numbers of the C interface.
-fn tell(a: Answer, answer: &mut [u64; 4]) -> u32
-    ensures { (result ≡ a.code) × (answer.new ≡ a.value ∷ a.steps ∷ 0 ∷ 0 ∷ []) }
+fn tell(told: Answer, answer: &mut [u64; 4]) -> u32
+    ensures { (result ≡ told.code) × (answer.new ≡ told.value ∷ told.steps ∷ 0 ∷ 0 ∷ []) }
 {
-    *answer = [a.value, a.steps as u64, 0, 0];
-    a.code
+    *answer = [told.value, u64::from(told.steps), 0, 0];
+    told.code
 }
 
 #[unsafe(no_mangle)]

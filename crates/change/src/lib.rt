@@ -56,7 +56,7 @@ pub fn line_46(words: &mut [u32], site: Site) -> Answer
     go_on(words, site.worker, LOST, steps)
 }
 
-// Line 48: the change is answered 1.
+// Line 48: the change is answered 1. Lines 48 and 52 have a definition each, and each is one call: no plainer as one function.
 pub fn line_48(words: &mut [u32], site: Site) -> Answer
     requires { ReadyAt site words.old }
     ensures { StepsAt (line no_words line_48) site words.old result words.new }
@@ -66,7 +66,7 @@ pub fn line_48(words: &mut [u32], site: Site) -> Answer
     finish(words, site.worker, 1, steps)
 }
 
-// What giving the new node back uses: its link, and the first node given back.
+// What giving the new node back uses: its link, and the first node given back. No Site: an abandon does not ask where the items start.
 pub fn returned_is_damaged(words: &[u32], nodes_at: usize, w: usize) -> bool
     requires { CanReturn nodes_at w words.now }
     ensures { (a : ℕ) → result ≡ returned_node (cells_at a nodes_at words.now) w }

@@ -3,6 +3,7 @@
 #![tactic(auto)]
 
 // What a call answers, in document 01's numbers, and two later ones, 0 today. In this order it has no gaps: 24 bytes, as with three numbers.
+// No enum: C is given these numbers, and the theorems (Promises.Met, Told) speak of the code. Each code is written once, in endings.
 #[derive(Drop)]
 pub struct Answer {
     pub code: u32,
@@ -12,7 +13,8 @@ pub struct Answer {
     pub operator: u32,
 }
 
-// One entry of the fixed table of phases.
+// One entry of the fixed table of phases. Numbers and no enum: the definitions' table (Phases) and what is proved of its rows have these; a line is the
+// paper's number.
 #[derive(Clone, Copy)]
 pub struct PhaseRow {
     pub operation: u8,

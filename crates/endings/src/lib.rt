@@ -1,4 +1,4 @@
-// How a call ends: it is refused, or accepted; a step goes on, finishes, or ends with 11 or 12. And the whole of a worker's record.
+// How a call ends: it is refused, or accepted; a step goes on, finishes, or ends with 11 or 12.
 #![tactic(auto)]
 
 pub mod reads;
@@ -13,7 +13,7 @@ ghost use Rattle.tables.specs.Ranges.{HasRecord};
 ghost use Rattle.endings.specs.Ended.{number_of};
 ghost use Rattle.endings.specs.Stepped.{moved_on};
 
-use crate::reason::Reason;
+use crate::reason::{Reason, refuse};
 use crate::record::{IDLE, write_record};
 use definitions::Answer;
 use tables::fields::{HEADER_WORDS, PHASE, STEPS, WORKER_WORDS};
@@ -70,10 +70,7 @@ pub fn end_with(words: &mut [u32], w: usize, reason: Reason, steps: u32) -> Answ
 {
     write_record(words, w, IDLE);
     Answer {
-        code: 16 + reason as u32,
-        value: 0,
         steps: steps + 1,
-        stamped: 0,
-        operator: 0,
+        ..refuse(reason)
     }
 }

@@ -1,4 +1,4 @@
-// Why a call is refused: document 01's table of refusals.
+// Why a call, or a line of the schedule program, is refused: document 01's table of refusals.
 ghost use Rattle.std.specs.Prelude.{◌≡◌};
 ghost use Rattle.definitions.specs.Answers.{refusal};
 ghost use Rattle.endings.specs.Ended.{number_of, answered};

@@ -23,7 +23,7 @@ pub answer_line_length : (a : Answer) → length (answer_line a) ≡ answer_leng
 unfolding hex answer_line
 answer_line_length a = refl
 
--- the code's digit, without a test
+-- the digit, without a test
 pub glyph_by : (d : ℕ) → d < 16 → 48 + d + 39 * ((d + 6) / 16) ≡ glyph d
 glyph_by d h = by_test (nat_lt d 10) refl
   where
@@ -31,7 +31,7 @@ glyph_by d h = by_test (nat_lt d 10) refl
     by_test true e = omega (arith, ltb-true d 10 e)
     by_test false e = omega (arith, ltb-false d 10 e)
 
--- the stores of straight code
+-- two stores, and four, one after the other
 pub two_stored : (l : List ℕ) (at a b : ℕ) → slice_set (slice_set l at a) (at + 1) b ≡ sets l at (a ∷ b ∷ [])
 two_stored l at a b = rw add-one
 

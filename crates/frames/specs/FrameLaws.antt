@@ -1,4 +1,4 @@
--- Laws of frames: what the parser's tests tell of a line.
+-- Laws of frames: what tests tell of a line.
 use Rattle.std.specs.Prelude.{◌≡◌, ℕ, zero, suc, ◌+◌, ◌-◌, ◌*◌, ◌%◌, ◌<◌, ◌≤◌, Bool, true, false, cond, not, ◌&&◌, ◌||◌, List, [], ◌∷◌, ◌++◌, length, take, drop, ◌==◌, ◌≢◌, nat_le, nat_lt, slice_index, refl}
 use Rattle.std.proofs.Common.{ap, sym, ◌∙◌, subst, true≢false, add-zero, arith, length-drop, take-append-drop, drop_of_length-le, get_or-drop, drop-drop, ltb-true, ltb-false, lt-ltb, le-ltb, le-leb, eq-eqb, ne_eqb, leb-true}
 use Rattle.std.proofs.Math.Bool.{and-true, and_assoc, and-false}
@@ -29,7 +29,7 @@ digit_known b = ranges (within 48 57 b) (within 97 102 b) refl refl
     ranges false true d e h = absurd (omega (arith, in_range 97 102 b e, ltb-false (b - 87) 16 h))
     ranges false false d e h = refl
 
--- the parser's three ways to a digit: by the distance from `0` and from `a`, wrapping at 256
+-- a digit by its distance from `0` or from `a`, wrapping at 256
 pub digit_figure : (b figure : ℕ) → (figure + 48) % 256 ≡ b → figure < 10 → figure ≡ digit b
 unfolding digit
 digit_figure b figure e h = simp (le-leb 48 b (omega arith), le-leb b 57 (omega arith)) (omega arith)
@@ -144,7 +144,7 @@ too_large l h = by_test (all_digits (take 4 l)) refl
         le-ltb 65535 (number (take 4 l)) (omega arith)
     by_test false e = lt-ltb 65535 (number (take 4 l)) (omega (arith, wrong_digit 0 (take 4 l) e))
 
--- what the parser tests: one of k arguments more, the first of them at a place, is too large
+-- one of k arguments more, the first of them at a place, is too large
 abbrev pub field : List ℕ → ℕ → ℕ
 field line at = number (take 4 (drop at line))
 

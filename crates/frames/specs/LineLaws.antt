@@ -4,7 +4,7 @@ use Rattle.std.proofs.Common.{ap, sym, ◌∙◌, true≢false, not-suc-le-zero,
 use Rattle.std.proofs.lemmas.Bool.{false≢true}
 use Rattle.frames.specs.Lines.{feed, lines_of, before_first, line_length, first_line, after_line, has_feed, onto_first, whole_lines, unfinished, last_line}
 
--- ---- the line reader's loop
+-- ---- how long a line is, byte after byte
 
 pub length_end : (l : List ℕ) (i : ℕ) → length l ≤ i → line_length (drop i l) ≡ 0
 unfolding line_length

@@ -79,7 +79,8 @@ pub fn line_21(words: &mut [u32], site: Site) -> Answer
     go_on(words, site.worker, phase + 1, steps)
 }
 
-// Line 22's compare-and-swap, in the node part: the number is stored only if the stamp is still to be decided. Says whether it was stored.
+// Line 22's compare-and-swap, in the node part: the number is stored only if the stamp is still to be decided. Says whether it was stored:
+// no line asks that; it is promised to later callers (docs/DECISIONS.md).
 pub fn store_stamp(nodes: &mut [u32], n: usize, seen: u32) -> bool
     requires { node_words * n + 2 < length nodes.old }
     ensures { (result ≡ eqb (get_or nodes.old (node_words * n + 2) 0) 4294967295)

@@ -34,7 +34,6 @@ pub fn line_6(words: &mut [u32], site: Site) -> Answer
     let seen = words[at + SEEN];
     if words[COUNTER] == seen {
         words[COUNTER] = seen + 1;
-        return finish(words, site.worker, seen as u64, steps);
     }
     finish(words, site.worker, seen as u64, steps)
 }

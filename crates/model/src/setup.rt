@@ -59,6 +59,7 @@ fn clear(memory: &mut [usize]) {
 }
 
 // Refusal 2, as far as a model without words has it: before any make, or "fewer lent words than the header needs".
+// Memory and lent stay two parameters, as memory and item do (history.rt).
 pub fn is_damaged(memory: &[usize], lent: usize) -> bool {
     let needed = get(memory, NEEDED);
     needed == 0 || lent < needed

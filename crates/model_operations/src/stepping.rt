@@ -18,7 +18,7 @@ fn advance(memory: &mut [usize], worker: usize, operation: Operation) -> Reply {
     let mut record = Record::read(memory, worker, operation);
     let steps = record.steps.wrapping_add(1);
     record.steps = steps;
-    match record.line(memory) {
+    match record.run_line(memory) {
         Ok(None) => {
             record.write(memory, worker);
             Reply::Running { steps }
@@ -35,7 +35,7 @@ fn advance(memory: &mut [usize], worker: usize, operation: Operation) -> Reply {
 }
 
 impl Record {
-    fn line(&mut self, memory: &mut [usize]) -> Result<Option<usize>, Refusal> {
+    fn run_line(&mut self, memory: &mut [usize]) -> Result<Option<usize>, Refusal> {
         match self.operation {
             Operation::VRead => Ok(self.v_read(memory)),
             Operation::VCas => self.v_cas(memory),

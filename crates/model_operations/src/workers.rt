@@ -162,7 +162,7 @@ pub(crate) fn rest(memory: &mut [usize], worker: usize) {
     set_field(memory, OPERATION, worker, 0);
 }
 
-// Refusals 2 and 3, which all calls with a worker share. Lent words and worker stay two parameters: only this asks for both.
+// Refusals 2 and 3, which all calls with a worker share. Lent words and worker stay two parameters: only this tests both, and the others hand them on.
 pub(crate) fn check_worker(memory: &[usize], lent: usize, worker: usize) -> Result<(), Refusal> {
     Refusal::Damaged.when(is_damaged(memory, lent))?;
     Refusal::NoSuchWorker.when(get(memory, WORKERS) <= worker)

@@ -25,7 +25,7 @@ pub fn draw(x: u32) -> u32
     x / 65536
 }
 
-// That draw among some: which worker steps next, where there are that many workers. Among none it is 0.
+// That draw among some: which worker steps next, where there are that many workers. Among none it is 0, as its definition says.
 pub fn draw_among(x: u32, some: u32) -> u32
     ensures { result ≡ draw_among x some }
 {

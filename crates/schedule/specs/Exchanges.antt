@@ -37,7 +37,7 @@ AllGoOn (e ∷ es) = (0 < length e.read) × (e.goes_on ≡ true) × AllGoOn es
 abbrev pub most_turns : ℕ
 most_turns = 18446744073709551615
 
--- Why a run ended, by its last turn and the number of its turns; whether it answers that it could go on; and which frames of the text it carried out.
+-- Why a run ended, by its last turn and the number of its turns; whether it could go on; and which frames of the text it carried out.
 -- At the end of the input these are the frames of all lines, of an unfinished last one too, and else of the whole lines. Whether the last write failed
 -- there, the program does not ask.
 pub data Ends (last : Exchange) (number : ℕ) (text : List ℕ) : Bool → List Frame → Type 0 where

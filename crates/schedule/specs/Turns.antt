@@ -40,7 +40,7 @@ read_into z got = take (clamp_len got (length z)) z
 
 -- What a read that answered `got` comes to, where p are the bytes read, after the k that are kept of an unfinished line. Where it failed: no answer,
 -- and words and output are as they were. At the end of the input: the answer of the last line stands at the front of the output. Else the answers of
--- all whole lines of k and p stand there, and `goes_on` is what write answers: whether it took them all. Of that answer no contract says anything.
+-- all whole lines of k and p stand there, and `goes_on` is what write answers: whether it took them all. Of what is written, `RanOn` (Runs) says more.
 pub data After (got : ℤ) (k p ws out : List ℕ) (r : Turn) (bytes' ws' out' : List ℕ) : Type 0 where
   unread : (n : ℕ) → got ≡ negsuc n → r.goes_on ≡ false → r.written ≡ 0 → ws' ≡ ws → out' ≡ out → After got k p ws out r bytes' ws' out'
   ended : got ≡ pos 0 → r.goes_on ≡ false → Last k ws out r.written ws' out' → After got k p ws out r bytes' ws' out'

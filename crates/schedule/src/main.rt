@@ -21,7 +21,8 @@ const WORDS: usize = 16384;
 // An answer line for each byte read.
 const OUT_LENGTH: usize = TEXT_LENGTH * frames::ANSWER_LENGTH;
 
-// The status that a shell reports of a filter that nobody reads any more, which SIGPIPE ends.
+// The status that a shell reports of a filter that nobody reads any more, which SIGPIPE ends. It stands in soak too: the two
+// programs share no crate of their own.
 const NOBODY_READS: u8 = 141;
 
 // Why the program does not run, or a run ends before the end of its input.
@@ -173,7 +174,8 @@ impl Buffers {
     }
 }
 
-// How many words the command has: the program's name and its arguments.
+// How many words the command has: the program's name and its arguments. By place: the library's args() makes Strings, and
+// there is no heap here.
 fn count_words<C: Env>(command: &C) -> usize {
     for at in 0..usize::MAX {
         if let Err(FillError::NotPresent) = command.arg(at, &mut []) {

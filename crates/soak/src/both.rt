@@ -165,35 +165,40 @@ fn model_answers(memory: &mut [usize], lent: Lent) -> Reply {
     }
 }
 
-// The phase of the worker that a start, a step or an abandon names.
-fn phase_of(words: &[u32], call: Call) -> u32 {
+// The phase of the worker that a start, a step or an abandon names; None where that is not there, or the call names none.
+fn phase_of(words: &[u32], call: Call) -> Option<u32> {
     match call {
-        Call::Make { .. } | Call::Register { .. } => 0,
+        Call::Make { .. } | Call::Register { .. } => None,
         Call::Start { worker, .. } | Call::Step { worker } | Call::Abandon { worker } => {
             let at = HEADER_WORDS + WORKER_WORDS * worker as usize + PHASE;
-            words.get(at).copied().unwrap_or(0)
+            words.get(at).copied()
         }
     }
 }
 
 // A start that was accepted, or a step that advanced an operation, took the worker from a phase to a phase. An abandon is counted apart.
-fn note_move(tally: &mut [u64], call: Call, answer: &Answer, before: u32, after: u32) {
+fn note_move(
+    tally: &mut [u64],
+    call: Call,
+    answer: &Answer,
+    before: Option<u32>,
+    after: Option<u32>,
+) {
     if 2 < answer.code && answer.steps == 0 {
         return;
     }
-    match call {
-        Call::Make { .. } | Call::Register { .. } => (),
-        Call::Start { .. } | Call::Step { .. } => {
-            count(tally, move_place(before, after));
-            count(tally, PHASES.place(after));
-            if answer.code == 0 {
-                raise(tally, LONGEST.place(before), u64::from(answer.steps));
-            }
-        }
-        Call::Abandon { .. } => {
-            count(tally, ABANDONS);
-            count(tally, ABANDONED.place(before));
-        }
+    let (Some(before), Some(after)) = (before, after) else {
+        return;
+    };
+    if matches!(call, Call::Abandon { .. }) {
+        count(tally, ABANDONS);
+        count(tally, ABANDONED.place(before));
+        return;
+    }
+    count(tally, move_place(before, after));
+    count(tally, PHASES.place(after));
+    if answer.code == 0 {
+        raise(tally, LONGEST.place(before), u64::from(answer.steps));
     }
 }
 

@@ -1,5 +1,6 @@
 // The longest total that there is, 5,121 steps: 256 items and 4,096 nodes, every node but the first ones published above the
-// handle, and each item's last version still without its stamp when the total comes to it. The calls by their number.
+// handle, and each item's last version still without its stamp when the total comes to it. The calls by their number, which is no kind, so it
+// is matched by ranges.
 use model::history::present_value;
 use tally::frames::{Call, Operation, make_of};
 
@@ -7,7 +8,7 @@ pub const CALLS: u64 = 43270;
 
 // Worker 1 starts a change of an item, from project 0 to 1 or back.
 fn change_of(memory: &[usize], item: u32) -> Call {
-    let is_changed = present_value(memory, item as usize) != 0;
+    let is_changed = present_value(memory, item as usize).unwrap_or(0) != 0;
     let old = u32::from(is_changed);
     let new = u32::from(!is_changed);
     Call::Start {

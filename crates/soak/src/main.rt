@@ -17,7 +17,8 @@ use std::process::ExitCode;
 use tally::frames::WHOLE;
 use tally::notes::{NOTES, ROUNDS, SEED, STATE, put};
 
-// The status that a shell reports of a filter that nobody reads any more, which SIGPIPE ends.
+// The status that a shell reports of a filter that nobody reads any more, which SIGPIPE ends. It stands in schedule too: the
+// two programs share no crate of their own.
 const NOBODY_READS: u8 = 141;
 
 // A line on standard error, every few seconds of a long run.
@@ -66,11 +67,11 @@ fn run_as_asked(rt: &(impl Env + Print + Eprint)) -> io::Result<()> {
 
 // Where the report can't be written, a word on standard error says so, but where nobody reads it: then soak ends as any filter does, and says nothing.
 fn main(rt: HostRuntime) -> ExitCode {
-    if let Err(e) = run_as_asked(&rt) {
-        if matches!(e.kind(), ErrorKind::BrokenPipe) {
+    if let Err(error) = run_as_asked(&rt) {
+        if matches!(error.kind(), ErrorKind::BrokenPipe) {
             return ExitCode::from(NOBODY_READS);
         }
-        let _ = eprintln!(rt; "soak: standard output: {e}");
+        let _ = eprintln!(rt; "soak: standard output: {error}");
     }
     ExitCode::SUCCESS
 }

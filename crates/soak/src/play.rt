@@ -110,7 +110,7 @@ static BAD_MAKES: [[u32; 5]; 9] = [
 ];
 
 fn bad_make(which: u32) -> Call {
-    let [workers, items, nodes, projects, counter] = BAD_MAKES[which as usize % 9];
+    let [workers, items, nodes, projects, counter] = BAD_MAKES[which as usize % BAD_MAKES.len()];
     make_of(workers, items, nodes, projects, counter)
 }
 
@@ -204,7 +204,7 @@ impl Bench {
         if once_in(&mut self.tally, 4) {
             return self.below(PROJECTS, slack);
         }
-        narrow(present_value(&self.memory, item as usize))
+        narrow(present_value(&self.memory, item as usize).unwrap_or(0))
     }
 
     // One of the five operations.
@@ -231,7 +231,7 @@ impl Bench {
     fn odd_call(&mut self) -> Lent {
         let worker = self.below(WORKERS, 2);
         let call = match among(&mut self.tally, 16) {
-            0 => bad_make(among(&mut self.tally, 9)),
+            0 => bad_make(among(&mut self.tally, BAD_MAKES.len() as u32)),
             1..3 => self.registering(2),
             3..6 => step_or_abandon(&mut self.tally, worker, 2),
             6..8 if is_noted(&self.tally, WIDE) => {
@@ -294,6 +294,6 @@ impl Bench {
         if rest < rounds {
             return self.drawn_call();
         }
-        EARLY_CALLS[((rest - rounds) % 9) as usize].into()
+        EARLY_CALLS[(rest - rounds) as usize % EARLY_CALLS.len()].into()
     }
 }

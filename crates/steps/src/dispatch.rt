@@ -1,4 +1,4 @@
-// From a row of the table of phases to its line.
+// From a row of the table of phases to its line: by a match and no table of functions, so that a line is called directly, by one jump a step.
 ghost use Rattle.std.specs.Prelude.{◌≡◌, ℕ, ◌+◌, ◌*◌, ◌≤◌, length};
 ghost use Rattle.definitions.specs.Cells.{cells_at};
 ghost use Rattle.tables.specs.Ranges.{HasRecord, kept_at};
@@ -19,7 +19,7 @@ use take::line_45;
 use walk::total::{closing_step, line_34, total_32};
 
 // What the record keeps for a line is not damaged. A step asks this where the line is known, so that it asks no more than that line's own tests.
-fn kept(words: &[u32], site: Site, line: u8) -> Result<(), Reason>
+fn check_kept(words: &[u32], site: Site, line: u8) -> Result<(), Reason>
     requires { HasRecord site.worker words.now }
     ensures { Reads (kept_at line (cells_at site.items_at site.nodes_at words.now) site.worker) tt result }
 {
@@ -37,7 +37,7 @@ fn run_snapshot_line(words: &mut [u32], site: Site, row: PhaseRow) -> Result<Ans
     if row.line == 5 {
         return Ok(line_5(words, site));
     }
-    kept(words, site, 6)?;
+    check_kept(words, site, 6)?;
     Ok(line_6(words, site))
 }
 
@@ -60,24 +60,24 @@ fn run_later_line(words: &mut [u32], site: Site, row: PhaseRow) -> Result<Answer
     let line = row.line;
     match line {
         39 => {
-            kept(words, site, 39)?;
+            check_kept(words, site, 39)?;
             line_39(words, site)
         }
         43 => {
-            kept(words, site, 43)?;
+            check_kept(words, site, 43)?;
             line_43(words, site)
         }
         45 => {
-            kept(words, site, 45)?;
+            check_kept(words, site, 45)?;
             line_45(words, site)
         }
         46 => {
-            kept(words, site, 46)?;
+            check_kept(words, site, 46)?;
             Ok(line_46(words, site))
         }
         48 => Ok(line_48(words, site)),
         50 => {
-            kept(words, site, 50)?;
+            check_kept(words, site, 50)?;
             line_50(words, site)
         }
         52 => Ok(line_52(words, site)),
@@ -93,20 +93,20 @@ fn run_numbered_line(words: &mut [u32], site: Site, row: PhaseRow) -> Result<Ans
     let line = row.line;
     match line {
         20 => {
-            kept(words, site, 20)?;
+            check_kept(words, site, 20)?;
             line_20(words, site)
         }
         21 => {
-            kept(words, site, 21)?;
+            check_kept(words, site, 21)?;
             Ok(line_21(words, site))
         }
         22 => {
-            kept(words, site, 22)?;
+            check_kept(words, site, 22)?;
             line_22(words, site)
         }
         32 => Ok(run_line_32(words, site, row)),
         34 => {
-            kept(words, site, 34)?;
+            check_kept(words, site, 34)?;
             line_34(words, site, row.operation)
         }
         37 | 41 | 51 => Ok(fetch_head(words, site)),

@@ -19,7 +19,8 @@ use definitions::{Answer, PhaseRow};
 use endings::reason::{Reason, answer_of, refuse};
 use endings::site::Site;
 use tables::damage::{header_is_damaged, item_is_damaged, steps_or_arguments_are_damaged};
-use tables::fields::{HEADER_WORDS, ITEM, ITEM_WORDS, ITEMS_LIMIT, PHASE, WORKER_WORDS, WORKERS};
+use tables::fields::{HEADER_WORDS, ITEM, PHASE, WORKER_WORDS, WORKERS};
+use tables::offsets::{items_offset, nodes_offset};
 use tables::phases::{CLOSING_PHASE, TAKE_SNAPSHOT, row_at};
 
 // The item that a running operation is inside of, where it is inside of one.
@@ -43,11 +44,9 @@ fn step_busy(words: &mut [u32], w: usize, row: PhaseRow) -> Result<Answer, Reaso
     requires { Header words.old × Busy w words.old × (row ≡ row_of (get_or words.old (16 + 16 * w + 0) 0)) }
     ensures { Met (items_offset words.old) (nodes_offset words.old) words.old (busy_step (cells_of words.old) w) (answered result) words.new }
 {
-    let items_at = HEADER_WORDS + WORKER_WORDS * (words[WORKERS] as usize);
-    let nodes_at = items_at + ITEM_WORDS * (words[ITEMS_LIMIT] as usize);
     let site = Site {
-        items_at,
-        nodes_at,
+        items_at: items_offset(words),
+        nodes_at: nodes_offset(words),
         worker: w,
     };
     if its_item_is_damaged(words, site, row) {
@@ -79,7 +78,7 @@ fn step_sound(words: &mut [u32], worker: u32) -> Result<Answer, Reason>
     step_busy(words, w, row)
 }
 
-// A step of a worker, on any words.
+// A step of a worker, on any words. Register and abandon begin so too; what follows differs, and a closure for it is no plainer.
 pub fn step(words: &mut [u32], worker: u32) -> Answer
     ensures { Done (outcome words.old (step worker)) result words.new }
 {

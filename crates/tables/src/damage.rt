@@ -1,5 +1,6 @@
-// The damage tests: each answers the definition of its name in definitions/specs/Damage.antt, without a branch where the words are there to read.
-ghost use Rattle.std.specs.Prelude.{◌≡◌, ◌||◌, ◌&&◌, eqb, false, ℕ, ◌+◌, ◌*◌, ◌<◌, ◌≤◌, length, get_or};
+// The damage tests: each answers the definition of its name in definitions/specs/Damage.antt. They take the words and a worker's number: the words are C's slice,
+// which carries no invariant, and a start has no Site.
+ghost use Rattle.std.specs.Prelude.{◌≡◌, ◌||◌, ◌&&◌, eqb, false, ℕ, ◌+◌, ◌*◌, ◌/◌, ◌%◌, ◌<◌, ◌≤◌, length, get_or};
 ghost use Rattle.definitions.specs.Cells.{node_words, cells_at, needed, node, new_node, seen};
 ghost use Rattle.definitions.specs.Phases.{row};
 ghost use Rattle.definitions.specs.Damage.{any_of, header_damaged_at, header_damaged, total_tests, arguments_damaged, keeps_node, keeps_new_node, bad_node, bad_time, kept_damaged, running_damaged, worker_damaged, too_many_steps, item_damaged, first_damaged};
@@ -10,6 +11,7 @@ use crate::fields::{
     ITEMS_LIMIT, NEW, NEW_NODE, NODE, NODE_WORDS, NODES_LIMIT, NOTED, OLD, OLDER, PHASE, PROJECT,
     PROJECTS, SEEN, STAMP, STEPS, SUM_HIGH, SUM_LOW, TBD, USED, VALUE, WORKER_WORDS, WORKERS,
 };
+use crate::limits::{NodeLimits, limits};
 use crate::nodes;
 use crate::phases::{CLOSING_PHASE, READ_SNAPSHOT, TAKE_SNAPSHOT, V_CAS, V_READ, row_at};
 use crate::sizes::{Sizes, sizes_beyond, words_needed};
@@ -54,7 +56,14 @@ pub fn header_is_damaged(words: &[u32]) -> bool
 pub fn sum_of(high: u32, low: u32) -> u64
     ensures { result ≡ high * 4294967296 + low }
 {
-    (high as u64) * 4294967296 + (low as u64)
+    u64::from(high) * 4294967296 + u64::from(low)
+}
+
+// Its two words, the high one first.
+pub fn words_of_sum(sum: u64) -> (u32, u32)
+    ensures { (result.0 ≡ sum / 4294967296) × (result.1 ≡ sum % 4294967296) }
+{
+    ((sum / 4294967296) as u32, (sum % 4294967296) as u32)
 }
 
 // A total's arguments, in the order of definitions/specs/Damage.antt.
@@ -82,7 +91,7 @@ pub fn total_is_damaged(words: &[u32], w: usize, row: PhaseRow) -> bool
 }
 
 // The arguments of the operation that a record runs. Two operations share a test: of a plain list of numbers a compiler makes an indirect jump.
-// Called, and not in its caller's own code, it would be handed the row in memory.
+// Always in its caller's own code, since a call would hand the row over in memory.
 #[inline(always)]
 fn arguments_are_damaged(words: &[u32], w: usize, row: PhaseRow) -> bool
     requires { HasRecord w words.now }
@@ -155,7 +164,7 @@ pub fn kept_at_line_is_damaged(words: &[u32], w: usize, line: u8) -> bool
     kept_is_damaged(words, w, line) | ((line == 6) & (words[COUNTER_LIMIT] <= seen))
 }
 
-// A running record, at the table's entry for its phase; in its caller's own code, as above.
+// A running record, at the table's entry for its phase. In its caller's own code for the same reason.
 #[inline(always)]
 pub fn running_is_damaged(words: &[u32], w: usize, row: PhaseRow) -> bool
     requires { HasRecord w words.now }
@@ -213,14 +222,14 @@ pub fn item_is_damaged(words: &[u32], items_at: usize, i: usize) -> bool
 }
 
 // All three words of node n, in the node part.
-pub fn node_is_damaged(nodes: &[u32], n: usize, projects: u32, used: u32, counter: u32) -> bool
+pub fn node_is_damaged(nodes: &[u32], n: usize, limits: NodeLimits) -> bool
     requires { node_words * n + 2 < length nodes.now }
-    ensures { result ≡ node_outside nodes.now n projects used counter }
+    ensures { result ≡ node_outside nodes.now n limits.projects limits.used limits.counter }
 {
     let stamp = nodes[NODE_WORDS * n + STAMP];
-    (projects <= nodes[NODE_WORDS * n + VALUE])
-        | (used < nodes[NODE_WORDS * n + OLDER])
-        | ((counter < stamp) & (stamp != TBD))
+    (limits.projects <= nodes[NODE_WORDS * n + VALUE])
+        | (limits.used < nodes[NODE_WORDS * n + OLDER])
+        | ((limits.counter < stamp) & (stamp != TBD))
 }
 
 // The first node given back, where one waits: register, line 50 and an abandon that gives a node back ask this, and line 45 of the node that it takes.
@@ -230,12 +239,6 @@ pub fn first_is_damaged(words: &[u32], nodes_at: usize) -> bool
 {
     match nodes::first_given_back(words) {
         None => false,
-        Some(first) => node_is_damaged(
-            &words[nodes_at..],
-            first as usize,
-            words[PROJECTS],
-            words[USED],
-            words[COUNTER],
-        ),
+        Some(first) => node_is_damaged(&words[nodes_at..], first as usize, limits(words)),
     }
 }

@@ -1,4 +1,5 @@
 // Where each field stands: docs/FIELDS.md is this file for people, definitions/specs/Cells.antt for the proofs.
+// The words are C's, so a field is a place among them, and no struct is laid over them.
 
 pub const HEADER_WORDS: usize = 16;
 
@@ -68,5 +69,5 @@ pub const OLDER: usize = 1;
 
 pub const STAMP: usize = 2;
 
-// The stamp of a node that is still to be decided.
+// The stamp of a node that is still to be decided: a word as C has it (docs/FIELDS.md), so no Option.
 pub const TBD: u32 = 4294967295;

@@ -3,6 +3,8 @@
 
 pub mod damage;
 pub mod fields;
+pub mod limits;
 pub mod nodes;
+pub mod offsets;
 pub mod phases;
 pub mod sizes;

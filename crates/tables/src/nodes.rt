@@ -1,4 +1,4 @@
-// Functions on the node part of the lent words: the part that starts where the nodes start, handed on and never copied.
+// Functions on the node part of the lent words: the part that starts where the nodes start, handed on and never copied. A node is three of C's words.
 ghost use Rattle.std.specs.Prelude.{◌≡◌, [], ◌∷◌, ◌+◌, ◌*◌, ◌<◌, ◌≤◌, length, get_or};
 ghost use Rattle.definitions.specs.Cells.{node_words};
 ghost use Rattle.tables.specs.Part.{stored, ◌gets◌};

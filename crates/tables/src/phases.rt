@@ -1,4 +1,4 @@
-// The fixed table of the machine's phases, consulted by step and by the damage test.
+// The fixed table of the machine's phases, consulted by step, by abandon and by the damage test.
 ghost use Rattle.std.specs.Prelude.{[], ◌∷◌, ◌≡◌, ◌<◌};
 ghost use Rattle.definitions.specs.Phases.{
   row_of,
@@ -19,7 +19,7 @@ ghost use Rattle.definitions.specs.Phases.{
 
 use definitions::PhaseRow;
 
-// The operations.
+// The operations. No enum, of these and of the phases: a phase is a lent word, and the definitions (Phases) have both as these numbers.
 pub const V_READ: u8 = 1;
 
 pub const V_CAS: u8 = 2;

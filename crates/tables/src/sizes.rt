@@ -35,7 +35,7 @@ pub fn sizes_beyond(sizes: Sizes) -> bool
 pub fn words_needed(sizes: Sizes) -> u64
     ensures { result ≡ needed sizes.workers sizes.items sizes.nodes }
 {
-    16 + 16 * (sizes.workers as u64)
-        + 4 * (sizes.items as u64)
-        + (NODE_WORDS as u64) * (sizes.nodes as u64)
+    16 + 16 * u64::from(sizes.workers)
+        + 4 * u64::from(sizes.items)
+        + (NODE_WORDS as u64) * u64::from(sizes.nodes)
 }

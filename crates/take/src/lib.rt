@@ -13,9 +13,10 @@ use endings::site::Site;
 use endings::{end_with, go_on};
 use tables::damage::node_is_damaged;
 use tables::fields::{
-    COUNTER, GIVEN_BACK, HEADER_WORDS, NEW, NEW_NODE, NODE, NODES_LIMIT, OLDER, PHASE, PROJECTS,
-    STEPS, TBD, USED, WORKER_WORDS,
+    GIVEN_BACK, HEADER_WORDS, NEW, NEW_NODE, NODE, NODES_LIMIT, OLDER, PHASE, STEPS, TBD, USED,
+    WORKER_WORDS,
 };
+use tables::limits::limits;
 use tables::nodes;
 
 // No node waits, and all were used.
@@ -63,13 +64,8 @@ pub fn line_45(words: &mut [u32], site: Site) -> Result<Answer, Reason>
     }
     let taken = next_node(words);
     let n = taken as usize;
-    if node_is_damaged(
-        &words[site.nodes_at..],
-        n,
-        words[PROJECTS],
-        words[USED],
-        words[COUNTER],
-    ) {
+    let limits = limits(words);
+    if node_is_damaged(&words[site.nodes_at..], n, limits) {
         return Err(Reason::Damaged);
     }
     take_node(words, site.nodes_at);

@@ -15,6 +15,7 @@ pub enum Operation {
     Total { project: u32, handle: u32 },
 }
 
+// Not the Frame of crate frames, which has no abandon and a start in five variants: soak asks for the phase of any start.
 #[derive(Clone, Copy)]
 pub enum Call {
     Make {
@@ -185,7 +186,8 @@ impl From<Call> for Lent {
     }
 }
 
-// For the log, where a call's first number and the lent words share one.
+// For the log, where a call's first number and the lent words share one: six numbers are what lent_of, its definition, and
+// log_call take of a call.
 impl Lent {
     ghost use Rattle.tally.specs.Log.{lent_of};
     ghost use Rattle.tally.specs.declared.frames.TheConstants.{WHOLE};

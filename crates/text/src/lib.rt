@@ -17,7 +17,8 @@ use frames::{ANSWER_LENGTH, Frame};
 // How many bytes are kept of a line that is unfinished: a longer one is no frame, whatever it holds.
 const LONGEST_KEPT: usize = 65;
 
-// How many bytes of the text were taken, and how many of the output were written.
+// How many bytes of the text were taken, and how many of the output were written. The contracts Feeding, Piece and Last name
+// this, Kept and the counts.
 #[derive(Drop)]
 pub struct Fed {
     pub used: usize,
@@ -67,7 +68,8 @@ fn carry_out(words: &mut [u32], frame: Frame) -> Answer
     }
 }
 
-// One line is answered, at a place of the output that has room.
+// One line is answered, at a place of the output that has room. By its place: the library says nothing of what a slice
+// ends as after chunks_exact_mut.
 fn answer_one(line: &[u8], words: &mut [u32], out: &mut [u8], at: usize)
     requires { at + answer_length ≤ length out.old }
     ensures { (out.new ≡ sets out.old at (answer_line (replied words.old (frame line.now)).answer))

@@ -9,27 +9,21 @@ use definitions::Answer;
 use endings::go_on;
 use endings::site::Site;
 use tables::fields::{HEADER_WORDS, NODE, OLDER, PHASE, STAMP, STEPS, VALUE, WORKER_WORDS};
+use tables::limits::NodeLimits;
 use tables::nodes;
 
 // Line 34's test of a node, in the node part: its stamp, and the one word that it reads after that.
-pub fn tested_is_damaged(
-    nodes: &[u32],
-    n: usize,
-    handle: u32,
-    projects: u32,
-    used: u32,
-    counter: u32,
-) -> bool
+pub fn tested_is_damaged(nodes: &[u32], n: usize, handle: u32, limits: NodeLimits) -> bool
     requires { node_words * n + 2 < length nodes.now }
-    ensures { result ≡ node_tested nodes.now n handle projects used counter }
+    ensures { result ≡ node_tested nodes.now n handle limits.projects limits.used limits.counter }
 {
     let stamp = nodes::word(nodes, n, STAMP);
     if handle < stamp {
         let older = nodes::word(nodes, n, OLDER);
-        return (counter < stamp) | ((older == 0) | (used < older));
+        return (limits.counter < stamp) | ((older == 0) | (limits.used < older));
     }
     let value = nodes::word(nodes, n, VALUE);
-    (counter < stamp) | (projects <= value)
+    (limits.counter < stamp) | (limits.projects <= value)
 }
 
 // A stamp above the handle leads to the older node, in readSnapshot and in total.

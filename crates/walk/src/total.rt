@@ -11,23 +11,24 @@ use definitions::Answer;
 use endings::reason::Reason;
 use endings::site::Site;
 use endings::{finish, go_on};
-use tables::damage::sum_of;
+use tables::damage::{sum_of, words_of_sum};
 use tables::fields::{
-    BIRTH, COUNTER, HANDLE, HEAD, HEADER_WORDS, ITEM, ITEM_WORDS, NODE, NOTED, PHASE, PROJECT,
-    PROJECTS, SIZE, STAMP, STEPS, SUM_HIGH, SUM_LOW, USED, VALUE, WORKER_WORDS,
+    BIRTH, HANDLE, HEAD, HEADER_WORDS, ITEM, ITEM_WORDS, NODE, NOTED, PHASE, PROJECT, SIZE, STAMP,
+    STEPS, SUM_HIGH, SUM_LOW, VALUE, WORKER_WORDS,
 };
+use tables::limits::limits;
 use tables::nodes;
 use tables::phases::{CLOSING_PHASE, TOTAL, TOTAL_START};
 
 // A total goes on at its next item, or at its closing step.
-fn go_to_place(words: &mut [u32], w: usize, place: u32, noted: u32, steps: u32) -> Answer
-    requires { HasRecord w words.old × (steps < 5121) }
-    ensures { (result ≡ running (steps + 1)) × (words.new ≡ moved_on words.old w (cond (eqb place noted) 35 30) (steps + 1)) }
+fn go_to_place(words: &mut [u32], site: Site, place: u32, noted: u32, steps: u32) -> Answer
+    requires { HasRecord site.worker words.old × (steps < 5121) }
+    ensures { (result ≡ running (steps + 1)) × (words.new ≡ moved_on words.old site.worker (cond (eqb place noted) 35 30) (steps + 1)) }
 {
     if place == noted {
-        return go_on(words, w, CLOSING_PHASE, steps);
+        return go_on(words, site.worker, CLOSING_PHASE, steps);
     }
-    go_on(words, w, TOTAL_START, steps)
+    go_on(words, site.worker, TOTAL_START, steps)
 }
 
 // A total's line 32: an item born after the handle is passed over.
@@ -43,7 +44,7 @@ pub fn total_32(words: &mut [u32], site: Site) -> Answer
     if words[at + HANDLE] < words[site.items_at + ITEM_WORDS * i + BIRTH] {
         let noted = words[at + NOTED];
         words[at + ITEM] = item + 1;
-        return go_to_place(words, site.worker, item + 1, noted, steps);
+        return go_to_place(words, site, item + 1, noted, steps);
     }
     words[at + NODE] = words[site.items_at + ITEM_WORDS * i + HEAD];
     go_on(words, site.worker, phase + 1, steps)
@@ -55,20 +56,20 @@ fn sum_with(sum: u64, value: u32, project: u32, size: u32) -> u64
     ensures { result ≡ sum + cond (eqb value project) size 0 }
 {
     if value == project {
-        return sum + (size as u64);
+        return sum + u64::from(size);
     }
     sum
 }
 
 // The item's part of the sum, and the way on to the next item.
-fn add_item(words: &mut [u32], items_at: usize, w: usize, value: u32, steps: u32) -> Answer
-    requires { HasRecord w words.old × (items_at + 4 * get_or words.old (16 + 16 * w + 2) 0 + 4 ≤ length words.old) × SmallSum w words.old × (steps < 5121) × (get_or words.old (16 + 16 * w + 2) 0 < 256) }
-    ensures { (result ≡ running (steps + 1)) × (words.new ≡ item_added items_at w value steps words.old) }
+fn add_item(words: &mut [u32], site: Site, value: u32, steps: u32) -> Answer
+    requires { ReadyAt site words.old × InItem site.worker words.old × SmallSum site.worker words.old × (steps < 5121) }
+    ensures { (result ≡ running (steps + 1)) × (words.new ≡ item_added site.items_at site.worker value steps words.old) }
 {
-    let at = HEADER_WORDS + WORKER_WORDS * w;
+    let at = HEADER_WORDS + WORKER_WORDS * site.worker;
     let item = words[at + ITEM];
     let i = item as usize;
-    let size = words[items_at + ITEM_WORDS * i + SIZE];
+    let size = words[site.items_at + ITEM_WORDS * i + SIZE];
     let noted = words[at + NOTED];
     let sum = sum_with(
         sum_of(words[at + SUM_HIGH], words[at + SUM_LOW]),
@@ -76,10 +77,11 @@ fn add_item(words: &mut [u32], items_at: usize, w: usize, value: u32, steps: u32
         words[at + PROJECT],
         size,
     );
+    let (high, low) = words_of_sum(sum);
     words[at + ITEM] = item + 1;
-    words[at + SUM_LOW] = (sum % 4294967296) as u32;
-    words[at + SUM_HIGH] = (sum / 4294967296) as u32;
-    go_to_place(words, w, item + 1, noted, steps)
+    words[at + SUM_LOW] = low;
+    words[at + SUM_HIGH] = high;
+    go_to_place(words, site, item + 1, noted, steps)
 }
 
 // Line 34: a stamp above the handle leads to the older node. At any other, readSnapshot answers the value, and total adds the item's size.
@@ -91,14 +93,8 @@ pub fn line_34(words: &mut [u32], site: Site, operation: u8) -> Result<Answer, R
     let steps = words[at + STEPS];
     let n = words[at + NODE] as usize;
     let handle = words[at + HANDLE];
-    if tested_is_damaged(
-        &words[site.nodes_at..],
-        n,
-        handle,
-        words[PROJECTS],
-        words[USED],
-        words[COUNTER],
-    ) {
+    let limits = limits(words);
+    if tested_is_damaged(&words[site.nodes_at..], n, handle, limits) {
         return Err(Reason::Damaged);
     }
     let stamp = nodes::word(&words[site.nodes_at..], n, STAMP);
@@ -107,7 +103,7 @@ pub fn line_34(words: &mut [u32], site: Site, operation: u8) -> Result<Answer, R
     }
     let value = nodes::word(&words[site.nodes_at..], n, VALUE);
     if operation == TOTAL {
-        return Ok(add_item(words, site.items_at, site.worker, value, steps));
+        return Ok(add_item(words, site, value, steps));
     }
     Ok(finish(words, site.worker, value as u64, steps))
 }

@@ -49,14 +49,14 @@ returns-then-record_is_damaged c = let x = c.args in let ws = x.words.now in
 
 pub abandon_holding-requires : goal.abandon_holding-requires
 abandon_holding-requires c = let x = c.args in let ws = x.words.now in
-    can_give_back ws x.worker _ c.requires c.if-words-worker.false (c.record_is_damaged.ensures (items_offset ws) (nodes_offset ws)) c.if-record_is_damaged.false c.holds_node.ensures c.if-holds_node.true
+    rw c.nodes_offset-nodes_at.ensures (can_give_back ws x.worker _ c.requires c.if-words-worker.false (c.record_is_damaged.ensures (items_offset ws) (nodes_offset ws)) c.if-record_is_damaged.false c.holds_node.ensures c.if-holds_node.true)
 
 pub returns-then-holds_node : goal.returns-then-holds_node
 returns-then-holds_node c = let x = c.args in let ws = x.words.now in let m = cells_of ws in let w = x.worker in
     past_tests ws w (lt-leb _ _ c.if-words-worker.false)
     (damage_told m w c.if-phase-gt-CLOSING_PHASE.false c.if-phase-eq0.false (c.record_is_damaged.ensures (items_offset ws) (nodes_offset ws)) c.if-record_is_damaged.false)
     (ne_eqb _ _ c.if-phase-eq0.false)
-    (met_holding (holds_node m w) (returned_node m w) (returning m w) (cleared w) (sym c.holds_node.ensures ∙ c.if-holds_node.true) (c.abandon_holding.ensures (items_offset ws)))
+    (met_holding (holds_node m w) (returned_node m w) (returning m w) (cleared w) (sym c.holds_node.ensures ∙ c.if-holds_node.true) (rw c.nodes_offset-nodes_at.ensures at (c.abandon_holding.ensures (items_offset ws))))
 
 pub returns : goal.returns
 returns c = let x = c.args in let ws = x.words.now in let m = cells_of ws in let w = x.worker in

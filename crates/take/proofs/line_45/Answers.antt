@@ -29,7 +29,7 @@ unfolding line_45
 returns-then-node_is_damaged c = let x = c.args in let ws = x.words.now in let a = x.site.items_at in let b = x.site.nodes_at in let m = cells_at a b ws in
     let left = sym (c.none_left.ensures a b) ∙ c.if-none_left.false in
     let e = c.next_node-taken.ensures a b in
-    let d = sym (outside_is a b ws c.next_node-taken.result) ∙ sym c.node_is_damaged.ensures ∙ c.if-node_is_damaged.true in
+    let d = sym (outside_is a b ws c.next_node-taken.result) ∙ sym (rw c.limits-limits.ensures at c.node_is_damaged.ensures) ∙ c.if-node_is_damaged.true in
     met_if _ (taken_told m x.site.worker left (rw e at d)) (refuses 2 refl)
 
 pub take_node-requires : goal.take_node-requires
@@ -47,7 +47,7 @@ unfolding line_45
 returns c = let x = c.args in let ws = x.words.now in let a = x.site.items_at in let b = x.site.nodes_at in let m = cells_at a b ws in let t = c.next_node-taken.result in
     let left = sym (c.none_left.ensures a b) ∙ c.if-none_left.false in
     let e = c.next_node-taken.ensures a b in
-    let d = sym (outside_is a b ws t) ∙ sym c.node_is_damaged.ensures ∙ c.if-node_is_damaged.false in
+    let d = sym (outside_is a b ws t) ∙ sym (rw c.limits-limits.ensures at c.node_is_damaged.ensures) ∙ c.if-node_is_damaged.false in
     let f = write_part c.take_node.new.words b ((node_words * t + 0) gets m (new x.site.worker) ∷ (node_words * t + 1) gets (m (node x.site.worker) + 1) ∷ (node_words * t + 2) gets 4294967295 ∷ []) c.make.ensures in
     met_else _ (taken_told m x.site.worker left (rw e at d)) (met_else _ left (record {
       answers = c.go_on.ensures.0;

@@ -23,7 +23,7 @@ pub returns-then-first_is_damaged : goal.returns-then-first_is_damaged
 unfolding registering
 returns-then-first_is_damaged c =
     let ws = c.args.words.now in let left = sym (c.none_left.ensures (items_offset ws) (nodes_offset ws)) ∙ c.if-none_left.false in
-    met_else _ (lt-leb _ _ c.if-words-value.false) (met_else _ (lt-leb _ _ c.if-words.false) (met_else _ left (met_if _ (sym (c.first_is_damaged.ensures (items_offset ws)) ∙ c.if-first_is_damaged.true) (refuses 2 refl))))
+    met_else _ (lt-leb _ _ c.if-words-value.false) (met_else _ (lt-leb _ _ c.if-words.false) (met_else _ left (met_if _ (sym (rw c.nodes_offset-nodes_at.ensures at (c.first_is_damaged.ensures (items_offset ws))) ∙ c.if-first_is_damaged.true) (refuses 2 refl))))
 
 pub register_taking-requires : goal.register_taking-requires
 register_taking-requires c =
@@ -33,4 +33,4 @@ pub returns : goal.returns
 unfolding registering
 returns c =
     let ws = c.args.words.now in let left = sym (c.none_left.ensures (items_offset ws) (nodes_offset ws)) ∙ c.if-none_left.false in
-    met_else _ (lt-leb _ _ c.if-words-value.false) (met_else _ (lt-leb _ _ c.if-words.false) (met_else _ left (met_else _ (sym (c.first_is_damaged.ensures (items_offset ws)) ∙ c.if-first_is_damaged.false) c.register_taking.ensures)))
+    met_else _ (lt-leb _ _ c.if-words-value.false) (met_else _ (lt-leb _ _ c.if-words.false) (met_else _ left (met_else _ (sym (rw c.nodes_offset-nodes_at.ensures at (c.first_is_damaged.ensures (items_offset ws))) ∙ c.if-first_is_damaged.false) c.register_taking.ensures)))

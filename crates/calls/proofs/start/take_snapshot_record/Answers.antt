@@ -7,13 +7,13 @@ use Rattle.facts.specs.Refusals.{worker_refusals}
 use Rattle.calls.specs.Starts.{has_room, refused_for, stopped, passed}
 use Rattle.calls.proofs.start.take_snapshot_record.Goals as goal
 
-pub returns-in_err-idle_worker : goal.returns-in_err-idle_worker
+pub returns-in_err-check_idle : goal.returns-in_err-check_idle
 unfolding outcome starting_take_snapshot
-returns-in_err-idle_worker c = let x = c.args in
+returns-in_err-check_idle c = let x = c.args in
     refused_for x.worker (err_from_is_err_and c.from_residual.result c.from_residual.ensures.1)
-    (stopped x.words.now (worker_refusals x.words.now x.worker) [] (accepts 0 (record_of x.worker 23 0 0 0 0 0 0)) c.in_err-idle_worker.ensures)
+    (stopped x.words.now (worker_refusals x.words.now x.worker) [] (accepts 0 (record_of x.worker 23 0 0 0 0 0 0)) c.in_err-check_idle.ensures)
 
 pub returns : goal.returns
 unfolding outcome starting_take_snapshot
 returns c = let x = c.args in let ws = x.words.now in
-    (passed ws (worker_refusals ws x.worker) [] (accepts 0 (record_of x.worker 23 0 0 0 0 0 0)) c.in_ok-idle_worker.ensures, has_room ws x.worker c.in_ok-idle_worker.ensures)
+    (passed ws (worker_refusals ws x.worker) [] (accepts 0 (record_of x.worker 23 0 0 0 0 0 0)) c.in_ok-check_idle.ensures, has_room ws x.worker c.in_ok-check_idle.ensures)

@@ -7,7 +7,7 @@ use Rattle.definitions.specs.Calls.{busy}
 use Rattle.facts.specs.Refusals.{first_of}
 use Rattle.definitions.specs.Damage.{worker_damaged}
 use Rattle.facts.specs.Facts.{header_sound}
-use Rattle.calls.proofs.start.idle_worker.Goals as goal
+use Rattle.calls.proofs.start.check_idle.Goals as goal
 
 pub bounds-words-0 : goal.bounds-words-0
 bounds-words-0 c = let header = header_sound _ (sym c.header_is_damaged.ensures ∙ c.if-header_is_damaged.false) in omega (arith, header)
