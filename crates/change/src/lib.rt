@@ -80,7 +80,7 @@ pub fn returned_is_damaged(words: &[u32], nodes_at: usize, w: usize) -> bool
     first_is_damaged(words, nodes_at)
 }
 
-// The new node is given back: it becomes the first of those that wait.
+// The new node is given back: it becomes the first of those that wait. No Site, as above.
 pub fn give_back(words: &mut [u32], nodes_at: usize, w: usize)
     requires { CanReturn nodes_at w words.old }
     ensures { (a : ℕ) → words.new ≡ written a nodes_at words.old (returning (cells_at a nodes_at words.old) w) }
@@ -107,7 +107,7 @@ pub fn line_50(words: &mut [u32], site: Site) -> Result<Answer, Reason>
     Ok(go_on(words, site.worker, phase + 1, steps)) // to line 51
 }
 
-// Line 52: the lost change is answered 0.
+// Line 52: the lost change is answered 0. A line of its own, as 48.
 pub fn line_52(words: &mut [u32], site: Site) -> Answer
     requires { ReadyAt site words.old }
     ensures { StepsAt (line no_words line_52) site words.old result words.new }

@@ -18,7 +18,7 @@ use crate::record::{IDLE, write_record};
 use definitions::Answer;
 use tables::fields::{HEADER_WORDS, PHASE, STEPS, WORKER_WORDS};
 
-// A call that is not a step, and is not refused.
+// A call that is not a step, and is not refused. Its code, as those below, is C's number (definitions, Answer).
 pub fn accept(value: u64) -> Answer
     ensures { result ≡ accepted value }
 {

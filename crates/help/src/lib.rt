@@ -18,7 +18,7 @@ use tables::fields::{
 };
 use tables::nodes;
 
-// A stamp that is neither a counter value nor still to be decided.
+// A stamp that is neither a counter value nor still to be decided (TBD is a word as C has it).
 pub fn bad_stamp(stamp: u32, counter: u32) -> bool
     ensures { result ≡ ltb counter stamp && not (eqb stamp 4294967295) }
 {

@@ -52,7 +52,7 @@ pub fn stamp(memory: &mut [usize], item: usize, version: usize, counter: usize) 
     set_field(memory, STAMPED, item, version.wrapping_add(1));
 }
 
-// A history starts with a row for one version; "this stamp is the item's birth stamp".
+// Rows are given out of the lent memory, since there is no heap. A history starts with a row for one version; "this stamp is the item's birth stamp".
 pub fn begin(memory: &mut [usize], item: usize, value: usize, size: usize) {
     let row = get(memory, GIVEN_OUT);
     put(memory, GIVEN_OUT, row.wrapping_add(1));

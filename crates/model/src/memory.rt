@@ -1,6 +1,6 @@
 // The numbers that the model keeps, in memory that the caller lends. A column has one number for each worker, each item or
 // each version. A place that is not there reads as 0 and is not written, so no call asks anything of its caller.
-// It stays a slice of numbers: soak calls v_read, step and the others with one, of any length and contents, and there is no heap.
+// It stays a slice of numbers: the public functions take one of any length and contents, and a struct would ask more of who calls them; and there is no heap.
 
 // How many numbers the caller lends, all 0 at first.
 pub const MEMORY: usize = 35072;

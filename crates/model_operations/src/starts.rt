@@ -4,7 +4,7 @@ use model::history::value_at;
 use model::memory::{COUNTER, ITEMS, PROJECTS, WORKERS, get};
 use model::replies::Refusal;
 
-// Whether the worker is idle. A worker that is not there is in no operation.
+// Whether the worker is idle. A worker that is not there is in no operation. Memory and worker stay two, as memory and item do (model, history.rt).
 pub fn is_resting(memory: &[usize], worker: usize) -> bool {
     get(memory, WORKERS) <= worker || operation_of(memory, worker).is_none()
 }

@@ -176,7 +176,8 @@ fn phase_of(words: &[u32], call: Call) -> Option<u32> {
     }
 }
 
-// A start that was accepted, or a step that advanced an operation, took the worker from a phase to a phase. An abandon is counted apart.
+// A start that was accepted, or a step that advanced an operation, took the worker from a phase to a phase. An abandon is counted apart. An answer's
+// code is C's number (definitions, Answer), here and below.
 fn note_move(
     tally: &mut [u64],
     call: Call,

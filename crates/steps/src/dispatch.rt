@@ -1,4 +1,5 @@
-// From a row of the table of phases to its line: by a match and no table of functions, so that a line is called directly, by one jump a step.
+// From a row of the table of phases to its line. By a match and no table of functions or closures: the definitions have the same switches (specs/Dispatch),
+// arm by arm.
 ghost use Rattle.std.specs.Prelude.{◌≡◌, ℕ, ◌+◌, ◌*◌, ◌≤◌, length};
 ghost use Rattle.definitions.specs.Cells.{cells_at};
 ghost use Rattle.tables.specs.Ranges.{HasRecord, kept_at};

@@ -205,7 +205,7 @@ pub fn worker_is_damaged(words: &[u32], w: usize) -> bool
     running_is_damaged(words, w, row)
 }
 
-// An item's record. A birth stamp of TBD is no damage; with branches, since a step asks this and its birth stamp is a counter value.
+// An item's record, by its number: a start has no Site. A birth stamp of TBD is no damage; with branches, since a step asks this and its birth stamp is a counter value.
 pub fn item_is_damaged(words: &[u32], items_at: usize, i: usize) -> bool
     requires { (9 ≤ length words.now) × (items_at + 4 * i + 4 ≤ length words.now) }
     ensures { (b : ℕ) → result ≡ item_damaged (cells_at items_at b words.now) i }

@@ -1,4 +1,4 @@
-// Document 01's generator, whose number stands in the notes.
+// Document 01's generator, whose number stands in the notes (a slice of any length: notes.rt).
 ghost use Rattle.std.specs.Prelude.{◌≡◌, ◌%◌, ◌^◌};
 
 use crate::notes::{STATE, get, put};

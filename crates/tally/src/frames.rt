@@ -186,8 +186,7 @@ impl From<Call> for Lent {
     }
 }
 
-// For the log, where a call's first number and the lent words share one: six numbers are what lent_of, its definition, and
-// log_call take of a call.
+// For the log, where a call's first number and the lent words share one: in fixed memory 312,000 numbers hold 52,000 calls so.
 impl Lent {
     ghost use Rattle.tally.specs.Log.{lent_of};
     ghost use Rattle.tally.specs.declared.frames.TheConstants.{WHOLE};

@@ -1,5 +1,5 @@
 // What the soak notes, in lent numbers: the generator's number, the counts. A place that is not there reads as 0 and is
-// never written. They stay a slice of numbers: soak's calls and the draws take one of any length, and there is no heap.
+// never written. They stay a slice of numbers: the public functions here and the draws take one of any length, and a struct would ask more of who calls them.
 ghost use Rattle.std.specs.Prelude.{◌+◌, ◌^◌, ◌<◌, SomeIff};
 
 pub const NOTES: usize = 2048;

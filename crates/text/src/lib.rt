@@ -121,7 +121,7 @@ pub fn answer_piece(text: &mut [u8], count: usize, words: &mut [u32], out: &mut 
     Kept { held, written }
 }
 
-// Answers what is left at the end of the input: a last line may lack its line feed.
+// Answers what is left at the end of the input: a last line may lack its line feed. How many bytes were written is what the contract Last speaks of.
 pub fn answer_last(text: &[u8], words: &mut [u32], out: &mut [u8]) -> usize
     requires { answer_length ≤ length out.old }
     ensures { Last text.now words.old out.old result words.new out.new }
