@@ -7,9 +7,6 @@ use Rattle.text.specs.FeedingLaws.{Going, going_on, no_room_left, no_line_left}
 use Rattle.text.proofs.answer_lines.Goals as goal
 use Rattle.text.proofs.answer_lines.Goals.{else-loop-test, then-loop-test+in_default}
 
-pub answer_one-requires : goal.answer_one-requires
-answer_one-requires c = omega (arith, c.loop.invariant.fits)
-
 pub loop-preserved : goal.loop-preserved
 loop-preserved c =
     let t = c.loop.left.now in
