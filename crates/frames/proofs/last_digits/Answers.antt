@@ -14,9 +14,6 @@ digit_stored k n digits h =
 none_stored : (k n : ℕ) → hex k n ≡ hex k n ++ drop k (replicate k 0)
 none_stored k n = sym (ap (λ (l : List ℕ). hex k n ++ l) (drop_of_length-le (replicate k 0) {i = k} (omega (arith, length-replicate {A = ℕ} k 0))) ∙ append-nil (hex k n))
 
-pub loop-k-init : goal.loop-k-init
-loop-k-init g c = record { long = length-replicate g.row.DIGITS 0; stored = none_stored g.row.DIGITS c.args.number }
-
 pub loop-k-preserved : goal.loop-k-preserved
 loop-k-preserved g c =
     let k = c.loop-k.k - 1 in
