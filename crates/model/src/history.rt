@@ -7,7 +7,7 @@ use crate::memory::{
     set_field,
 };
 
-// The item's row in a column of versions, as many of them as another column says.
+// The item's row in a column of versions, as many of them as another column says; none where a place of the row is not there.
 fn row(memory: &[usize], column: usize, item: usize, count: usize) -> &[usize] {
     let start = column.wrapping_add(field(memory, ROW, item));
     let end = start.wrapping_add(field(memory, count, item));
@@ -105,10 +105,10 @@ pub fn versions_by(memory: &[usize], item: usize, handle: usize) -> usize {
 }
 
 // Definition 1: "the value O had when T occurred", T having answered the handle: that of the last version stamped at most it.
-// None where the item was born after the handle.
-pub fn value_at(memory: &[usize], item: usize, handle: usize) -> Option<usize> {
-    let last = versions_by(memory, item, handle).checked_sub(1)?;
-    Some(value_of(memory, item, last))
+// Asked of an item that is born by then; of another it answers the value of version 0.
+pub fn value_at(memory: &[usize], item: usize, handle: usize) -> usize {
+    let by = versions_by(memory, item, handle);
+    value_of(memory, item, by.saturating_sub(1))
 }
 
 // Demand 3's k: how many versions, from the fetched one back, are stamped above the handle. Versions published after the
@@ -118,10 +118,16 @@ pub fn above(memory: &[usize], item: usize, version: usize, handle: usize) -> us
     version.wrapping_add(1).saturating_sub(by)
 }
 
+// Refusal 9, and a total's "one step if born after the handle".
+pub fn is_born_after(memory: &[usize], item: usize, handle: usize) -> bool {
+    handle < field(memory, STAMPS, field(memory, ROW, item))
+}
+
 // "the sum of sizes of the items whose value at the handle is that project", of the items noted at the start.
 pub fn total_at(memory: &[usize], noted: usize, project: usize, handle: usize) -> usize {
     (0..noted)
-        .filter(|item| value_at(memory, *item, handle) == Some(project))
+        .filter(|item| !is_born_after(memory, *item, handle))
+        .filter(|item| value_at(memory, *item, handle) == project)
         .map(|item| field(memory, SIZE, item))
         .fold(0, |total, size| total.wrapping_add(size))
 }

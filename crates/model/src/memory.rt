@@ -26,7 +26,7 @@ pub const TAKEN: usize = 8;
 // How much of the two columns of versions is given out.
 pub const GIVEN_OUT: usize = 9;
 
-// Columns with a number for each of 64 workers: the fields of a Record, which the crate model_operations has.
+// Columns with a number for each of 64 workers: what a Record reads and writes, which the crate model_operations has.
 pub const OPERATION: usize = 64;
 
 pub const STEPS: usize = 128;
@@ -42,18 +42,20 @@ pub const HANDLE: usize = 384;
 pub const PROJECT: usize = 448;
 
 pub const NOTED: usize = 512;
-
+// The number of the step that fetches the head (37, 41, 32, 51), or that published the own version (46).
 pub const FETCH: usize = 576;
-
+// Which version of the item that step found newest, counted from 0.
 pub const VERSION: usize = 640;
-
+// 1 where line 20 found TBD.
 pub const FOUND_TBD: usize = 704;
-
+// The counter as line 21 or line 5 read it.
 pub const COUNTER_READ: usize = 768;
-
-pub const OUTCOME: usize = 832;
-
-pub const HOLDS: usize = 896;
+// The number of the step that does the last test of line 34.
+pub const LAST_TEST: usize = 832;
+// How line 46 went.
+pub const OUTCOME: usize = 896;
+// 1 where the worker has taken a node at 45 that is neither published nor given back.
+pub const HOLDS: usize = 960;
 
 // Columns with a number for each of 256 items. The item's history is a row in the columns of versions.
 pub const ROW: usize = 1024;

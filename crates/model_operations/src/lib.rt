@@ -5,4 +5,4 @@ pub mod abandons;
 pub mod starts;
 pub mod stepping;
 mod vcas;
-mod workers;
+pub mod workers;

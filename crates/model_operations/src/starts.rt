@@ -1,7 +1,9 @@
 // The starts of the five operations. "Starting touches the worker's record and is not a step."
-use crate::workers::{Operation, Record, check_worker, operation_of};
-use model::history::value_at;
-use model::memory::{COUNTER, ITEMS, PROJECTS, WORKERS, get};
+use crate::workers::{Operation, check_worker, operation_of, starting};
+use model::history::is_born_after;
+use model::memory::{
+    COUNTER, HANDLE, ITEM, ITEMS, NEW, NOTED, OLD, PROJECT, PROJECTS, WORKERS, get,
+};
 use model::replies::Refusal;
 
 // Whether the worker is idle. A worker that is not there is in no operation. Memory and worker stay two, as memory and item do (model, history.rt).
@@ -23,11 +25,8 @@ pub fn v_read(
 ) -> Result<(), Refusal> {
     check_idle(memory, lent, worker)?;
     Refusal::NotRegistered.when(get(memory, ITEMS) <= item)?;
-    let record = Record {
-        item,
-        ..Record::starting(Operation::VRead)
-    };
-    record.write(memory, worker);
+    let mut record = starting(memory, worker, Operation::VRead);
+    record.set_field(ITEM, item);
     Ok(())
 }
 
@@ -44,21 +43,17 @@ pub fn v_cas(
     Refusal::NotRegistered.when(get(memory, ITEMS) <= item)?;
     let projects = get(memory, PROJECTS);
     Refusal::NoSuchProject.when(projects <= old_value || projects <= new_value)?;
-    let record = Record {
-        item,
-        old_value,
-        new_value,
-        ..Record::starting(Operation::VCas)
-    };
-    record.write(memory, worker);
+    let mut record = starting(memory, worker, Operation::VCas);
+    record.set_field(ITEM, item);
+    record.set_field(OLD, old_value);
+    record.set_field(NEW, new_value);
     Ok(())
 }
 
 // The counter is tested against C at line 5 and not here.
 pub fn take_snapshot(memory: &mut [usize], lent: usize, worker: usize) -> Result<(), Refusal> {
     check_idle(memory, lent, worker)?;
-    let record = Record::starting(Operation::TakeSnapshot);
-    record.write(memory, worker);
+    starting(memory, worker, Operation::TakeSnapshot);
     Ok(())
 }
 
@@ -72,13 +67,10 @@ pub fn read_snapshot(
     check_idle(memory, lent, worker)?;
     Refusal::NotRegistered.when(get(memory, ITEMS) <= item)?;
     Refusal::HandleNotGiven.when(get(memory, COUNTER) <= handle)?;
-    Refusal::HandleBelowBirth.when(value_at(memory, item, handle).is_none())?;
-    let record = Record {
-        item,
-        handle,
-        ..Record::starting(Operation::ReadSnapshot)
-    };
-    record.write(memory, worker);
+    Refusal::HandleBelowBirth.when(is_born_after(memory, item, handle))?;
+    let mut record = starting(memory, worker, Operation::ReadSnapshot);
+    record.set_field(ITEM, item);
+    record.set_field(HANDLE, handle);
     Ok(())
 }
 
@@ -93,12 +85,11 @@ pub fn total(
     check_idle(memory, lent, worker)?;
     Refusal::NoSuchProject.when(get(memory, PROJECTS) <= project)?;
     Refusal::HandleNotGiven.when(get(memory, COUNTER) <= handle)?;
-    let record = Record {
-        noted: get(memory, ITEMS),
-        project,
-        handle,
-        ..Record::starting(Operation::Total)
-    };
-    record.write(memory, worker);
+    let noted = get(memory, ITEMS);
+    let mut record = starting(memory, worker, Operation::Total);
+    record.set_field(ITEM, 0);
+    record.set_field(NOTED, noted);
+    record.set_field(PROJECT, project);
+    record.set_field(HANDLE, handle);
     Ok(())
 }

@@ -1,11 +1,8 @@
-// A worker's record: what each of the workers' columns has for it, by its type.
+// A worker's record: what the workers' columns have for it.
 ghost use Rattle.std.specs.Prelude.{◌≡◌, ◌<◌};
 ghost use Rattle.model_operations.specs.Numbers.{operation_number, IsOperationOf, outcome_number};
 
-use model::memory::{
-    COUNTER_READ, FETCH, FOUND_TBD, HANDLE, HOLDS, ITEM, NEW, NOTED, OLD, OPERATION, OUTCOME,
-    PROJECT, STEPS, VERSION, WORKERS, field, get, set_field,
-};
+use model::memory::{FETCH, HOLDS, OPERATION, OUTCOME, STEPS, WORKERS, field, get, set_field};
 use model::replies::Refusal;
 use model::setup::is_damaged;
 
@@ -66,86 +63,55 @@ impl Outcome {
     }
 }
 
-// Of a worker that is in an operation; an idle one's columns are not read but for OPERATION.
-#[derive(Clone, Copy)]
-pub(crate) struct Record {
-    pub operation: Operation,
+// A worker that is in an operation, in the memory: a step reads and writes there those columns that its line asks for, and no
+// others. An idle worker's columns are not read but for OPERATION.
+#[derive(Drop)]
+pub(crate) struct Record<'a> {
+    pub memory: &'a mut [usize],
+    pub worker: usize,
+    // How many steps are done, the present one among them.
     pub steps: usize,
-    pub item: usize,
-    pub old_value: usize,
-    pub new_value: usize,
-    pub handle: usize,
-    pub project: usize,
-    pub noted: usize,
-    // The number of the step that fetches the head (37, 41, 32, 51), or that published the own version (46).
-    pub fetch: usize,
-    // Which version of the item that step found newest, counted from 0.
-    pub version: usize,
-    // Whether line 20 found TBD.
-    pub found_tbd: bool,
-    // The counter as line 21 or line 5 read it.
-    pub counter_read: usize,
-    pub outcome: Outcome,
-    // Whether the worker has taken a node at 45 that is neither published nor given back.
-    pub holds: bool,
 }
 
-impl Record {
-    // No step is done, no node is held, and the first step is to fetch a head. A start adds the operation's arguments.
-    pub(crate) fn starting(operation: Operation) -> Record {
-        Record {
-            operation,
-            steps: 0,
-            item: 0,
-            old_value: 0,
-            new_value: 0,
-            handle: 0,
-            project: 0,
-            noted: 0,
-            fetch: 1,
-            version: 0,
-            found_tbd: false,
-            counter_read: 0,
-            outcome: Outcome::NotYet,
-            holds: false,
-        }
+impl Record<'_> {
+    pub fn field(&self, column: usize) -> usize {
+        field(self.memory, column, self.worker)
     }
 
-    pub(crate) fn read(memory: &[usize], worker: usize, operation: Operation) -> Record {
-        Record {
-            operation,
-            steps: field(memory, STEPS, worker),
-            item: field(memory, ITEM, worker),
-            old_value: field(memory, OLD, worker),
-            new_value: field(memory, NEW, worker),
-            handle: field(memory, HANDLE, worker),
-            project: field(memory, PROJECT, worker),
-            noted: field(memory, NOTED, worker),
-            fetch: field(memory, FETCH, worker),
-            version: field(memory, VERSION, worker),
-            found_tbd: is_set(memory, FOUND_TBD, worker),
-            counter_read: field(memory, COUNTER_READ, worker),
-            outcome: Outcome::of(field(memory, OUTCOME, worker)),
-            holds: is_set(memory, HOLDS, worker),
-        }
+    pub fn set_field(&mut self, column: usize, to: usize) {
+        set_field(self.memory, column, self.worker, to);
     }
 
-    pub(crate) fn write(self, memory: &mut [usize], worker: usize) {
-        set_field(memory, OPERATION, worker, self.operation.number());
-        set_field(memory, STEPS, worker, self.steps);
-        set_field(memory, ITEM, worker, self.item);
-        set_field(memory, OLD, worker, self.old_value);
-        set_field(memory, NEW, worker, self.new_value);
-        set_field(memory, HANDLE, worker, self.handle);
-        set_field(memory, PROJECT, worker, self.project);
-        set_field(memory, NOTED, worker, self.noted);
-        set_field(memory, FETCH, worker, self.fetch);
-        set_field(memory, VERSION, worker, self.version);
-        set_field(memory, FOUND_TBD, worker, usize::from(self.found_tbd));
-        set_field(memory, COUNTER_READ, worker, self.counter_read);
-        set_field(memory, OUTCOME, worker, self.outcome.number());
-        set_field(memory, HOLDS, worker, usize::from(self.holds));
+    pub fn is_set(&self, column: usize) -> bool {
+        is_set(self.memory, column, self.worker)
     }
+
+    pub fn set_flag(&mut self, column: usize, flag: bool) {
+        self.set_field(column, usize::from(flag));
+    }
+
+    pub fn outcome(&self) -> Outcome {
+        Outcome::of(self.field(OUTCOME))
+    }
+
+    pub fn set_outcome(&mut self, outcome: Outcome) {
+        self.set_field(OUTCOME, outcome.number());
+    }
+}
+
+// No step is done, no node is held, and the first step is to fetch a head. A start adds the operation's arguments.
+pub(crate) fn starting(memory: &mut [usize], worker: usize, operation: Operation) -> Record<'_> {
+    let mut record = Record {
+        memory,
+        worker,
+        steps: 0,
+    };
+    record.set_field(OPERATION, operation.number());
+    record.set_field(STEPS, 0);
+    record.set_field(FETCH, 1);
+    record.set_outcome(Outcome::NotYet);
+    record.set_flag(HOLDS, false);
+    record
 }
 
 // A column of 0 and 1.

@@ -39,7 +39,7 @@ most_turns = 18446744073709551615
 
 -- Why a run ended, by its last turn and the number of its turns; whether it could go on; and which frames of the text it carried out.
 -- At the end of the input these are the frames of all lines, of an unfinished last one too, and else of the whole lines. Whether the last write failed
--- there, the program does not ask.
+-- there, this does not say.
 pub data Ends (last : Exchange) (number : ℕ) (text : List ℕ) : Bool → List Frame → Type 0 where
   input_ended : last.got ≡ pos 0 → Ends last number text false (frames_of text)
   read_failed : (n : ℕ) → last.got ≡ negsuc n → Ends last number text false (frames_in text)

@@ -1,9 +1,9 @@
 -- Turns one after the other: after each of them the words, what is kept and what was handed to write are those of the whole text that was read.
-use Rattle.std.specs.Prelude.{◌≡◌, refl, Bool, true, false, Option, Result, Ok, Err, OnOk, IfErr, ℤ, pos, negsuc, take}
-use Rattle.std.specs.Io.KnownBytes.{Consumes, Appends, IsAtEnd, Keeps}
-use Rattle.std.proofs.KnownBytes.{Consumes-nil, Appends-nil, Consumes-trans, Appends-trans, Consumes-kept}
+use Rattle.std.specs.Prelude.{◌≡◌, refl, Bool, true, false, Option, Result, Ok, Err, ℤ, pos, negsuc, take}
+use Rattle.std.specs.Io.KnownBytes.{Consumes, Appends, IsAtEnd}
+use Rattle.std.proofs.KnownBytes.{Consumes-nil, Appends-nil, Consumes-trans, Appends-trans}
 use Rattle.std.proofs.Math.Path.{ap, sym, subst}
-use Rattle.std.proofs.Common.{◌∙◌, true≢false, length-append, take_at}
+use Rattle.std.proofs.Common.{◌∙◌, inl, inr, true≢false, ltb-true, length-append, take_at}
 use Prim.Native.Nat.{ℕ, suc, ◌+◌, ◌-◌, ◌<◌, ◌≤◌}
 use mathlib.Core.List.{List, [], ◌∷◌, ◌++◌, append-nil}
 use native.Mathlib.Omega.{arith}
@@ -14,11 +14,11 @@ use Rattle.frames.specs.declared.Frame.{Frame}
 use Rattle.frames.specs.Lines.{whole_lines, unfinished}
 use Rattle.text.specs.Replies.{answers, words_after, frames_of, lent, printed}
 use Rattle.text.specs.Feeding.{kept, frames_in, last_frame, Piece, Last}
-use Rattle.text.specs.PieceLaws.{written_fits, last_fits}
+use Rattle.text.specs.PieceLaws.{written_fits, little_held, last_fits}
 use Rattle.text.specs.Pieces.{answers_append, after_append, frames_on, kept_on, frames_at_end}
 use Rattle.schedule.specs.declared.Failure.{Failure}
 use Rattle.schedule.specs.declared.Failure.TheVariants.{Arguments, Unread, Unwritten, NobodyReads, TurnsSpent}
-use Rattle.schedule.specs.Runs.{OfWrite, RanOn}
+use Rattle.schedule.specs.Runs.{could_go_on, EndedBy, IfWritten, RanOn, goes_on_of, TurnAnswers, TakesTurn}
 use Rattle.schedule.specs.Exchanges.{AsMany, Exchange, all_read, all_handed, AllGoOn, most_turns, Ends, input_ended, read_failed, write_failed, turns_spent, Ran}
 use Rattle.schedule.specs.Turns.{Turn, out_length, After, unread, ended, went_on, Turned}
 
@@ -99,37 +99,50 @@ module _ (ws₀ ws k : List ℕ) (left : ℕ) (s : Session ws₀ ws k left) wher
     handed_last : Last k ws out r.written ws' out' → e.handed ≡ answers ws (last_frame k)
     handed_last l = t.hands ∙ at_front _ out out' r.written l.writes l.counts (omega (arith, last_fits _ _ _ _ _ _ l))
 
-    goes_on : After e.got k e.read ws out r bytes' ws' out' → r.goes_on ≡ true → Session ws₀ ws' (take r.held bytes') (left - 1)
+    -- the turns so far, and this one
+    abbrev pub GoesOn : Type 0
+    GoesOn = (next : Session ws₀ ws' (take r.held bytes') (left - 1)) × (next.turns ≡ e ∷ s.turns)
+
+    goes_on : After e.got k e.read ws out r bytes' ws' out' → r.goes_on ≡ true → GoesOn
     unfolding all_read all_handed
     goes_on (unread n g o c w d) h = absurd (true≢false (sym h ∙ o))
     goes_on (ended g o l) h = absurd (true≢false (sym h ∙ o))
     goes_on (went_on n g piece) h =
-        let some : length e.read ≡ suc n = subst (AsMany e.read) g e.as_many in
-        record {
-          turns = e ∷ s.turns;
-          each_goes_on = (omega arith, t.goes_on ∙ h, s.each_goes_on);
-          counts = omega (arith, s.counts);
-          words = piece.leaves ∙ words_on _ _ (piece_frames e.read);
-          keeps = piece.keeps ∙ ap (λ (l : List ℕ). kept (l ++ e.read)) s.keeps ∙ sym (kept_on text e.read);
-          hands = answers_on _ _ _ (piece_frames e.read) (handed_piece piece);
-        }
+        let some : length e.read ≡ suc n = subst (AsMany e.read) g e.as_many in (
+          record {
+            turns = e ∷ s.turns;
+            each_goes_on = (omega arith, t.goes_on ∙ h, s.each_goes_on);
+            counts = omega (arith, s.counts);
+            words = piece.leaves ∙ words_on _ _ (piece_frames e.read);
+            keeps = piece.keeps ∙ ap (λ (l : List ℕ). kept (l ++ e.read)) s.keeps ∙ sym (kept_on text e.read);
+            hands = answers_on _ _ _ (piece_frames e.read) (handed_piece piece);
+          },
+          refl,
+        )
 
     -- the run ends with this turn
-    ended_by : (b : Bool) (fs : List Frame) → Ends e (length (e ∷ s.turns)) (text ++ e.read) b fs
-        → all_handed s.turns ++ e.handed ≡ answers ws₀ fs → ws' ≡ words_after ws₀ fs → Ran ws₀ b ws'
-    unfolding all_read all_handed
-    ended_by b fs why h w = record {
-      before = s.turns;
-      last = e;
-      frames = fs;
-      each_goes_on = s.each_goes_on;
-      at_most = omega (arith, s.counts);
-      ends = why;
-      hands = h;
-      leaves = w;
-    }
+    abbrev pub LeavesOff : Bool → Type 0
+    LeavesOff b = (run : Ran ws₀ b ws') × (run.last ≡ e) × (run.before ≡ s.turns)
 
-    leaves_off : After e.got k e.read ws out r bytes' ws' out' → r.goes_on ≡ false → Ran ws₀ false ws'
+    ended_by : (b : Bool) (fs : List Frame) → Ends e (length (e ∷ s.turns)) (text ++ e.read) b fs
+        → all_handed s.turns ++ e.handed ≡ answers ws₀ fs → ws' ≡ words_after ws₀ fs → LeavesOff b
+    unfolding all_read all_handed
+    ended_by b fs why h w = (
+      record {
+        before = s.turns;
+        last = e;
+        frames = fs;
+        each_goes_on = s.each_goes_on;
+        at_most = omega (arith, s.counts);
+        ends = why;
+        hands = h;
+        leaves = w;
+      },
+      refl,
+      refl,
+    )
+
+    leaves_off : After e.got k e.read ws out r bytes' ws' out' → r.goes_on ≡ false → LeavesOff false
     leaves_off (unread n g o c w d) h =
         let same : text ++ e.read ≡ text = same_text e.read (subst (AsMany e.read) g e.as_many) in
         let none : e.handed ≡ [] = t.hands ∙ ap (λ (m : ℕ). take m out') c in
@@ -145,15 +158,15 @@ module _ (ws₀ ws k : List ℕ) (left : ℕ) (s : Session ws₀ ws k left) wher
         ended_by _ _ (write_failed n g (t.goes_on ∙ h))
         (answers_on _ _ _ (piece_frames e.read) (handed_piece piece)) (piece.leaves ∙ words_on _ _ (piece_frames e.read))
 
-    pub next_turn : r.goes_on ≡ true → Session ws₀ ws' (take r.held bytes') (left - 1)
+    pub next_turn : r.goes_on ≡ true → GoesOn
     next_turn h = goes_on t.after h
 
-    pub last_turn : r.goes_on ≡ false → Ran ws₀ false ws'
+    pub last_turn : r.goes_on ≡ false → LeavesOff false
     last_turn h = leaves_off t.after h
 
 -- all turns are spent
 abbrev Spent : List ℕ → List ℕ → List Exchange → Type 0
-Spent ws₀ ws es = (run : Ran ws₀ true ws) × (all_read (run.last ∷ run.before) ≡ all_read es)
+Spent ws₀ ws es = (run : Ran ws₀ true ws) × (run.last ∷ run.before ≡ es) × (0 < length run.last.read)
 
 spent : (ws₀ ws k : List ℕ) (left : ℕ) (s : Session ws₀ ws k left) → left ≤ 0 → Spent ws₀ ws s.turns
 spent ws₀ ws k left s none = by_turns s.turns s.each_goes_on (omega (arith, s.counts)) s.words s.hands
@@ -173,6 +186,7 @@ spent ws₀ ws k left s none = by_turns s.turns s.each_goes_on (omega (arith, s.
         leaves = w;
       },
       refl,
+      on.0,
     )
 
 pub no_turn_left : (ws₀ ws k : List ℕ) (left : ℕ) → Session ws₀ ws k left → left ≤ 0 → Ran ws₀ true ws
@@ -191,111 +205,119 @@ underway_start r w ws k e =
     subst (λ (l : List ℕ). Underway r r w w ws ws l most_turns) (sym e)
     (record { session = session_start ws; reads_on = Consumes-nil r; appends = Appends-nil w })
 
--- a turn that read p
-abbrev piece_turned : (k ws out p : List ℕ) (n : ℕ) → length p ≡ suc n → length k + length p ≤ 16384 → (goes_on : Bool) (held written : ℕ) (bytes' ws' out' : List ℕ)
-    → Piece (k ++ p) ws out (record { held = held; written = written }) bytes' ws' out'
-    → Turned k ws out (record { held = held; written = written; goes_on = goes_on }) bytes' ws' out'
-piece_turned k ws out p n count fits goes_on held written bytes' ws' out' piece = record {
-  exchange = record { got = pos (suc n); read = p; as_many = count; handed = take written out'; goes_on = goes_on };
-  after = went_on n refl piece;
-  hands = refl;
-  goes_on = refl;
-  in_buffer = fits;
-}
+if_written : {T A B : Type 0} (x : Result T Failure) → (A → B) → IfWritten x A → IfWritten x B
+if_written (Ok t) f a = f a
+if_written (Err failure) f (inl h) = inl h
+if_written (Err failure) f (inr a) = inr (f a)
 
--- one turn more: r' is what the input has left after its read, which kept the words and what is held
-module _ (r₀ r w₀ w : Option (List ℕ)) (ws₀ ws₁ k₁ : List ℕ) (left : ℕ) (before : Underway r₀ r w₀ w ws₀ ws₁ k₁ left) (ws k : List ℕ) (same_words : ws ≡ ws₁)
-    (same_kept : k ≡ k₁) (r' : Option (List ℕ)) (out : List ℕ) (long : length out ≡ out_length) (more : 0 < left) where
-  abbrev u : Underway r₀ r w₀ w ws₀ ws k left
-  u =
-      subst (λ (l : List ℕ). Underway r₀ r w₀ w ws₀ l k left) (sym same_words)
-      (subst (λ (l : List ℕ). Underway r₀ r w₀ w ws₀ ws₁ l left) (sym same_kept) before)
+-- what a turn's answer says of its read
+pos_negsuc : (m n : ℕ) → pos m ≡ negsuc n → ⊥
+pos_negsuc m n same = omega (arith, ltb-true m 0 (ap (λ (z : ℤ). lt_z z (pos 0)) same))
 
-  module _ (n : ℕ) (p : List ℕ) (count : length p ≡ suc n) (fits : length k + length p ≤ 16384) (took : Consumes r r' p)
-      (held written : ℕ) (bytes' ws' out' : List ℕ) (piece : Piece (k ++ p) ws out (record { held = held; written = written }) bytes' ws' out') where
-    pub turn_on : (w' : Option (List ℕ)) → Appends w w' (take written out') → Underway r₀ r' w₀ w' ws₀ ws' (take held bytes') (left - 1)
-    unfolding all_read all_handed goes_on next_turn
-    turn_on w' a = record {
-      session = next_turn ws₀ ws k left u.session out _ bytes' ws' out' long more (piece_turned k ws out p n count fits true held written bytes' ws' out' piece) refl;
-      reads_on = Consumes-trans r₀ r r' _ p u.reads_on took;
-      appends = Appends-trans w₀ w w' _ _ u.appends a;
-    }
+read_none : (got : ℤ) → TurnAnswers got (Ok false) → got ≡ pos 0
+read_none (pos n) h = ap pos (h.0 refl)
+read_none (negsuc n) h = absurd h
 
-    last_of : Ran ws₀ false ws'
-    last_of = last_turn ws₀ ws k left u.session out _ bytes' ws' out' long more (piece_turned k ws out p n count fits false held written bytes' ws' out' piece) refl
+fails_by : (T : Type 0) (got : ℤ) (f : Failure) → TurnAnswers got (Err f) → EndedBy {T = T} (Err f) got × (could_go_on {T = T} (Err f) ≡ false)
+fails_by T (pos n) Unwritten h = (tt, refl)
+fails_by T (pos n) NobodyReads h = (tt, refl)
+fails_by T (pos n) Arguments h = absurd h
+fails_by T (pos n) Unread h = absurd h
+fails_by T (pos n) TurnsSpent h = absurd h
+fails_by T (negsuc n) f h =
+    subst (λ (x : Failure). EndedBy {T = T} (Err x) (negsuc n) × (could_go_on {T = T} (Err x) ≡ false)) (sym h.1) (ap negsuc h.0, refl)
 
-    pub write_stops : {T : Type 0} (w' : Option (List ℕ)) (f : Failure) → OfWrite f → RanOn {T = T} r₀ r' w₀ w' ws₀ (Err f) ws'
-    unfolding all_read last_of last_turn leaves_off ended_by
-    write_stops w' Unwritten h = record { run = last_of; reads_on = Consumes-trans r₀ r r' _ p u.reads_on took; ended_by = tt; at_end = tt; appends = tt }
-    write_stops w' NobodyReads h = record { run = last_of; reads_on = Consumes-trans r₀ r r' _ p u.reads_on took; ended_by = tt; at_end = tt; appends = tt }
-    write_stops w' Arguments h = absurd h
-    write_stops w' Unread h = absurd h
-    write_stops w' TurnsSpent h = absurd h
+fails_unread : (got : ℤ) (f : Failure) → TurnAnswers got (Err f) → (n : ℕ) → got ≡ negsuc n → f ≡ Unread
+fails_unread (pos m) f h n same = absurd (pos_negsuc m n same)
+fails_unread (negsuc m) f h n same = h.1
 
-  -- a turn that found the end of the input
-  module _ (little : length k ≤ 16384) (took : Consumes r r' []) (end : IsAtEnd r') (written : ℕ) (ws' out' : List ℕ) (last : Last k ws out written ws' out') where
-    abbrev end_turned : Turned k ws out (record { held = 0; written = written; goes_on = false }) [] ws' out'
-    end_turned = record {
-      exchange = record { got = pos 0; read = []; as_many = refl; handed = take written out'; goes_on = false };
-      after = ended refl refl last;
-      hands = refl;
-      goes_on = refl;
-      in_buffer = omega arith;
-    }
+-- one turn more: r' is what the input has left after it, and w' what the output holds
+module _ (r₀ r w₀ w : Option (List ℕ)) (ws₀ ws k : List ℕ) (left : ℕ) (u : Underway r₀ r w₀ w ws₀ ws k left) (more : 0 < left) (r' w' : Option (List ℕ))
+    (out : List ℕ) (answered : Result Bool Failure) (held : ℕ) (bytes' ws' out' : List ℕ)
+    (t : TakesTurn r r' w w' k ws out answered held bytes' ws' out') where
+  abbrev turn : Exchange
+  turn = t.turned.exchange
 
-    ended_there : Ran ws₀ false ws'
-    ended_there = last_turn ws₀ ws k left u.session out _ [] ws' out' long more end_turned refl
+  all_reads_on : Consumes r₀ r' (all_read (turn ∷ u.session.turns))
+  unfolding all_read
+  all_reads_on = Consumes-trans r₀ r r' _ _ u.reads_on t.reads_on
 
-    pub input_ends : {T : Type 0} (w' : Option (List ℕ)) (answered : Result T Failure) → IfErr answered OfWrite → OnOk answered (Appends w w' (take written out'))
-        → RanOn r₀ r' w₀ w' ws₀ answered ws'
-    unfolding all_read all_handed ended_there last_turn leaves_off ended_by
-    input_ends w' (Ok t) h a = record {
-      run = ended_there;
-      reads_on = Consumes-trans r₀ r r' _ [] u.reads_on took;
-      ended_by = refl;
-      at_end = end;
-      appends = Appends-trans w₀ w w' _ _ u.appends a;
-    }
-    input_ends w' (Err Unwritten) h a = record { run = ended_there; reads_on = Consumes-trans r₀ r r' _ [] u.reads_on took; ended_by = tt; at_end = tt; appends = tt }
-    input_ends w' (Err NobodyReads) h a = record { run = ended_there; reads_on = Consumes-trans r₀ r r' _ [] u.reads_on took; ended_by = tt; at_end = tt; appends = tt }
-    input_ends w' (Err Arguments) h a = absurd h
-    input_ends w' (Err Unread) h a = absurd h
-    input_ends w' (Err TurnsSpent) h a = absurd h
+  all_appends : Appends w w' turn.handed → Appends w₀ w' (all_handed (turn ∷ u.session.turns))
+  unfolding all_handed
+  all_appends a = Appends-trans w₀ w w' _ _ u.appends a
 
-  -- a turn whose read failed
-  module _ (little : length k ≤ 16384) (kept_on : Keeps r r') where
-    abbrev unread_turned : Turned k ws out (record { held = 0; written = 0; goes_on = false }) [] ws out
-    unread_turned = record {
-      exchange = record { got = negsuc 0; read = []; as_many = refl; handed = []; goes_on = false };
-      after = unread 0 refl refl refl refl refl;
-      hands = refl;
-      goes_on = refl;
-      in_buffer = omega arith;
-    }
+  pub turn_on : answered ≡ Ok true → Underway r₀ r' w₀ w' ws₀ ws' (take held bytes') (left - 1)
+  turn_on g =
+      let next = next_turn ws₀ ws k left u.session out _ bytes' ws' out' t.room more t.turned (ap goes_on_of g) in
+      record {
+        session = next.0;
+        reads_on = subst (λ (es : List Exchange). Consumes r₀ r' (all_read es)) (sym next.1) all_reads_on;
+        appends = subst (λ (es : List Exchange). Appends w₀ w' (all_handed es)) (sym next.1)
+            (all_appends (subst (λ (x : Result Bool Failure). IfWritten x (Appends w w' turn.handed)) g t.appends));
+      }
 
-    unread_there : Ran ws₀ false ws
-    unread_there = last_turn ws₀ ws k left u.session out _ [] ws out long more unread_turned refl
+  pub few_held : answered ≡ Ok true → held ≤ 65
+  few_held g = by_after t.turned.after (ap goes_on_of g)
+    where
+      by_after : After turn.got k turn.read ws out (record { held = held; written = t.written; goes_on = goes_on_of answered }) bytes' ws' out'
+          → goes_on_of answered ≡ true → held ≤ 65
+      by_after (unread n g o c w d) h = absurd (true≢false (sym h ∙ o))
+      by_after (ended g o l) h = absurd (true≢false (sym h ∙ o))
+      by_after (went_on n g piece) h = little_held _ _ _ _ _ _ _ piece
 
-    pub read_stops : {T : Type 0} → RanOn {T = T} r₀ r' w₀ w ws₀ (Err Unread) ws
-    unfolding all_read unread_there last_turn leaves_off ended_by
-    read_stops = record {
-      run = unread_there;
-      reads_on = subst (Consumes r₀ r') (sym (append-nil _)) (Consumes-kept r₀ r r' _ u.reads_on kept_on);
-      ended_by = refl;
-      at_end = tt;
-      appends = tt;
-    }
+  -- the run ends with this turn
+  stops : {T : Type 0} (x : Result T Failure) → could_go_on x ≡ false → goes_on_of answered ≡ false → EndedBy x turn.got
+      → ((n : ℕ) → turn.got ≡ negsuc n → x ≡ Err Unread) → IfWritten x (Appends w w' turn.handed) → RanOn r₀ r' w₀ w' ws₀ x ws'
+  stops x over stopped why failed appends =
+      let l = subst (λ (b : Bool). LeavesOff ws₀ ws k left u.session out _ bytes' ws' out' t.room more t.turned b) (sym over)
+      (last_turn ws₀ ws k left u.session out _ bytes' ws' out' t.room more t.turned stopped) in
+      let turns : l.0.last ∷ l.0.before ≡ turn ∷ u.session.turns
+      = ap (λ (y : Exchange). y ∷ l.0.before) l.1 ∙ ap (λ (es : List Exchange). turn ∷ es) l.2 in
+      let got : turn.got ≡ l.0.last.got = sym (ap (λ (y : Exchange). y.got) l.1) in
+      record {
+        run = l.0;
+        reads_on = subst (λ (es : List Exchange). Consumes r₀ r' (all_read es)) (sym turns) all_reads_on;
+        ended_by = subst (EndedBy x) got why;
+        at_end = λ g. t.at_end (got ∙ g);
+        unread = λ n g. failed n (got ∙ g);
+        appends = subst (λ (es : List Exchange). IfWritten x (Appends w₀ w' (all_handed es))) (sym turns) (if_written x all_appends appends);
+      }
+
+  pub input_ends : {T : Type 0} (x : T) → answered ≡ Ok false → RanOn r₀ r' w₀ w' ws₀ (Ok x) ws'
+  input_ends x g =
+      let none = read_none turn.got (subst (TurnAnswers turn.got) g t.answers) in
+      stops (Ok x) refl (ap goes_on_of g) none (λ n z. absurd (pos_negsuc 0 n (sym none ∙ z)))
+      (subst (λ (y : Result Bool Failure). IfWritten y (Appends w w' turn.handed)) g t.appends)
+
+  pub turn_fails : {T : Type 0} (f : Failure) → answered ≡ Err f → RanOn {T = T} r₀ r' w₀ w' ws₀ (Err f) ws'
+  turn_fails {T} f g =
+      let answers = subst (TurnAnswers turn.got) g t.answers in
+      let by = fails_by T turn.got f answers in
+      stops (Err f) by.1 (ap goes_on_of g) by.0 (λ n z. ap (λ (x : Failure). Err x) (fails_unread turn.got f answers n z))
+      (subst (λ (y : Result Bool Failure). IfWritten y (Appends w w' turn.handed)) g t.appends)
 
 -- all turns are spent
 pub turns_stop : {T : Type 0} (r₀ r w₀ w : Option (List ℕ)) (ws₀ ws k : List ℕ) (left : ℕ) → Underway r₀ r w₀ w ws₀ ws k left → left ≤ 0
     → RanOn {T = T} r₀ r w₀ w ws₀ (Err TurnsSpent) ws
 turns_stop r₀ r w₀ w ws₀ ws k left u none =
     let s = spent ws₀ ws k left u.session none in
-    record { run = s.0; reads_on = subst (Consumes r₀ r) (sym s.1) u.reads_on; ended_by = tt; at_end = tt; appends = tt }
+    let last = s.0.last in
+    record {
+      run = s.0;
+      reads_on = subst (λ (es : List Exchange). Consumes r₀ r (all_read es)) (sym s.1) u.reads_on;
+      ended_by = tt;
+      at_end = λ g. absurd (omega (arith, s.2, subst (AsMany last.read) g last.as_many));
+      unread = λ n g. absurd (omega (arith, s.2, ap length (subst (AsMany last.read) g last.as_many)));
+      appends = inr (subst (λ (es : List Exchange). Appends w₀ w (all_handed es)) (sym s.1) u.appends);
+    }
 
 -- The program, from the lent words: where a run answers Ok, its input is at the end, and what is printed on all that the input gave is what the output
 -- gained.
 pub program_gives : {T : Type 0} (r₀ r₁ w₀ w₁ : Option (List ℕ)) (t : T) (ws' : List ℕ) → RanOn r₀ r₁ w₀ w₁ lent (Ok t) ws'
     → (text : List ℕ) × Consumes r₀ r₁ text × IsAtEnd r₁ × Appends w₀ w₁ (printed text)
-program_gives r₀ r₁ w₀ w₁ t ws' ran =
-    (all_read (ran.run.last ∷ ran.run.before), ran.reads_on, ran.at_end, subst (Appends w₀ w₁) (program_prints false ws' ran.run ran.ended_by) ran.appends)
+program_gives r₀ r₁ w₀ w₁ t ws' ran = (
+  all_read (ran.run.last ∷ ran.run.before),
+  ran.reads_on,
+  ran.at_end ran.ended_by,
+  subst (Appends w₀ w₁) (program_prints false ws' ran.run ran.ended_by) ran.appends,
+)

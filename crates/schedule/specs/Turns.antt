@@ -40,7 +40,7 @@ read_into z got = take (clamp_len got (length z)) z
 
 -- What a read that answered `got` comes to, where p are the bytes read, after the k that are kept of an unfinished line. Where it failed: no answer,
 -- and words and output are as they were. At the end of the input: the answer of the last line stands at the front of the output. Else the answers of
--- all whole lines of k and p stand there, and `goes_on` is what write answers: whether it took them all. Of what is written, `RanOn` (Runs) says more.
+-- all whole lines of k and p stand there, and `goes_on` is what write answers: whether it took them all. Of what is written, `AnswersRead` (Runs) says more.
 pub data After (got : ℤ) (k p ws out : List ℕ) (r : Turn) (bytes' ws' out' : List ℕ) : Type 0 where
   unread : (n : ℕ) → got ≡ negsuc n → r.goes_on ≡ false → r.written ≡ 0 → ws' ≡ ws → out' ≡ out → After got k p ws out r bytes' ws' out'
   ended : got ≡ pos 0 → r.goes_on ≡ false → Last k ws out r.written ws' out' → After got k p ws out r bytes' ws' out'
@@ -59,7 +59,8 @@ pub record Turned (k ws out : List ℕ) (r : Turn) (bytes' ws' out' : List ℕ) 
 pub piece_of : (t u ws out : List ℕ) (r : Kept) (bytes' ws' out' : List ℕ) → t ≡ u → Piece t ws out r bytes' ws' out' → Piece u ws out r bytes' ws' out'
 piece_of t u ws out r bytes' ws' out' e p = subst (λ (x : List ℕ). Piece x ws out r bytes' ws' out') e p
 
--- What the program's tests of the answer tell; g is the answer as the machine reads it, and the bytes after those that are held are a part of all.
+-- What a read comes to, by its answer's sign and by the count of bytes that it put there: g is that answer again, and the bytes after those that are held
+-- are a part of all.
 module _ (got g : ℤ) (reads : g ≡ got) (bytes : List ℕ) (held : ℕ) (ws out : List ℕ) (r : Turn) (bytes' ws' out' : List ℕ) where
   abbrev Comes : ℤ → Type 0
   Comes h = After h (take held bytes) (read_into (drop held bytes) h) ws out r bytes' ws' out'
@@ -106,13 +107,12 @@ module _ (got g : ℤ) (reads : g ≡ got) (bytes : List ℕ) (held : ℕ) (ws o
       piece_at (negsuc n) t s p = absurd (true≢false t)
 
 -- By its contract read answers at most as many bytes as it was lent.
-read_as_many : (z : List ℕ) (room : ℕ) (got : ℤ) → Moved room got → room ≤ length z → AsMany (read_into z got) got
+pub read_as_many : (z : List ℕ) (room : ℕ) (got : ℤ) → Moved room got → room ≤ length z → AsMany (read_into z got) got
 read_as_many z room (pos n) m r = omega (arith, length-take (clamp_len (pos n) (length z)) z)
 read_as_many z room (negsuc n) m r = refl
 
--- The bytes before the place that was read into are as they were, and z is what stands there now; g is what read answered, and got is that answer as
--- the machine reads it.
-pub turn_of : (bytes : List ℕ) (held : ℕ) → length bytes ≡ 16384 → held ≤ 16384 → (z : List ℕ) → length (take held bytes ++ z) ≡ length bytes
+-- The bytes before the place that was read into are as they were, and z is what stands there now; g is what read answered, and got is that answer again.
+unfoldable pub turn_of : (bytes : List ℕ) (held : ℕ) → length bytes ≡ 16384 → held ≤ 16384 → (z : List ℕ) → length (take held bytes ++ z) ≡ length bytes
     → (got g : ℤ) → got ≡ g → Moved (length (take (length bytes - held) (drop held bytes))) g → (ws out : List ℕ) (r : Turn) (bytes' ws' out' : List ℕ)
     → After got (take held (take held bytes ++ z)) (read_into (drop held (take held bytes ++ z)) got) ws out r bytes' ws' out'
     → Turned (take held bytes) ws out r bytes' ws' out'

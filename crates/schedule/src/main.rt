@@ -6,8 +6,8 @@ ghost use Rattle.std.specs.Io.KnownBytes.{Appends};
 ghost use Rattle.std.specs.IoError.{error_kind};
 ghost use Rattle.text.specs.Feeding.{Piece, Last};
 ghost use Rattle.text.specs.Replies.{lent};
-ghost use Rattle.schedule.specs.Turns.{out_length, Moved, Took};
-ghost use Rattle.schedule.specs.Runs.{got_of, OfWrite, Answers, AnswersLast, RanOn};
+ghost use Rattle.schedule.specs.Turns.{out_length, Moved, Took, read_into};
+ghost use Rattle.schedule.specs.Runs.{got_of, OfWrite, Answers, AnswersLast, AnswersRead, TakesTurn, RanOn};
 
 use std::env::{Env, FillError};
 use std::io::{Error, ErrorKind, Read, Write};
@@ -140,16 +140,53 @@ impl Buffers {
         write_answers(output, &self.out[..written])
     }
 
+    // What a read that answered `got` comes to, and whether the run goes on: the whole lines are answered, at the end of the input the last line. Where it
+    // failed nothing more is answered, since what is held may be a part of a line.
+    fn after_read<W: Write>(
+        &mut self,
+        got: Result<usize, Error>,
+        output: &mut W,
+    ) -> Result<bool, Failure>
+        requires { (self.old.held ≤ 65) × Moved (16384 - self.old.held) (got_of got) }
+        ensures { AnswersRead (W.contents output.old) (W.contents output.new) (got_of got) (take self.old.held self.old.bytes)
+            (read_into (drop self.old.held self.old.bytes) (got_of got)) self.old.words self.old.out result self.new.held self.new.bytes self.new.words
+            self.new.out }
+    {
+        match got {
+            Ok(0) => {
+                self.finish(output)?;
+                Ok(false)
+            }
+            Ok(count) => {
+                self.answer(count, output)?;
+                Ok(true)
+            }
+            Err(_) => Err(Failure::Unread),
+        }
+    }
+
+    // One read after what is held, and what it comes to.
+    fn take_turn<R: Read, W: Write>(
+        &mut self,
+        input: &mut R,
+        output: &mut W,
+    ) -> Result<bool, Failure>
+        requires { self.old.held ≤ 65 }
+        ensures { TakesTurn (R.remaining input.old) (R.remaining input.new) (W.contents output.old) (W.contents output.new)
+            (take self.old.held self.old.bytes) self.old.words self.old.out result self.new.held self.new.bytes self.new.words self.new.out }
+    {
+        let got = self.read_once(input);
+        self.after_read(got, output)
+    }
+
     // Turns until the input ends or cannot be read, or the output cannot be written.
     fn run<R: Read, W: Write>(&mut self, input: &mut R, output: &mut W) -> Result<(), Failure>
         requires { self.old.held ≡ 0 }
         ensures { RanOn (R.remaining input.old) (R.remaining input.new) (W.contents output.old) (W.contents output.new) self.old.words result self.new.words }
     {
         for _ in 0..u64::MAX {
-            match self.read_once(input) {
-                Ok(0) => return self.finish(output),
-                Ok(count) => self.answer(count, output)?,
-                Err(_) => return Err(Failure::Unread),
+            if !self.take_turn(input, output)? {
+                return Ok(());
             }
         }
         Err(Failure::TurnsSpent)

@@ -1,5 +1,5 @@
 // One call, on the code and on the model: logged, made twice, counted, compared.
-ghost use Rattle.std.specs.Prelude.{◌≡◌, ◌&&◌, ◌==◌, [], ◌∷◌};
+ghost use Rattle.std.specs.Prelude.{◌≡◌, ◌&&◌, ◌==◌, [], ◌∷◌, get_or};
 ghost use Rattle.model.specs.Replies.{numbers_of};
 
 use calls::start;
@@ -18,8 +18,8 @@ use tally::notes::{
     REFUSALS, count, get, lower, move_place, put, raise,
 };
 
-// Room for 52,000 calls, six numbers each.
-pub const LOG: usize = 312000;
+// Six numbers for each call.
+pub const LOG: usize = 6 * frames::MOST as usize;
 
 // What a run works on: the code's words, the model's memory, the log of the calls, the notes.
 #[derive(Drop)]
@@ -70,11 +70,12 @@ impl fmt::Display for Said {
     }
 }
 
-// All three numbers.
-fn agree(code: Said, model: Said) -> bool
-    ensures { result ≡ (code.code == model.code && code.value == model.value) && (code.steps == model.steps) }
+// Code, value and steps. What the code answered and what the model replied are of two types, so that neither is held against itself.
+fn agree(answer: &Answer, reply: Reply) -> bool
+    ensures { let numbers = numbers_of reply in
+        result ≡ (answer.now.code == get_or numbers 0 0 && answer.now.value == get_or numbers 1 0) && (answer.now.steps == get_or numbers 2 0) }
 {
-    code == model
+    Said::from(answer) == Said::from(reply)
 }
 
 fn code_starts(words: &mut [u32], worker: u32, operation: Operation) -> Answer {
@@ -232,15 +233,14 @@ impl Bench {
         let before = phase_of(&self.words, call);
         let answer = code_answers(&mut self.words, lent);
         let after = phase_of(&self.words, call);
-        let model = Said::from(model_answers(&mut self.memory, lent));
+        let reply = model_answers(&mut self.memory, lent);
         frames::log_call(&mut self.log, &mut self.tally, lent.numbers());
         note_move(&mut self.tally, call, &answer, before, after);
         lower(&mut self.tally, LIFE);
         note_answer(&mut self.tally, call, answer.code);
-        let code = Said::from(&answer);
-        if agree(code, model) {
+        if agree(&answer, reply) {
             return Ok(());
         }
-        self.note_difference(rt, code, model)
+        self.note_difference(rt, Said::from(&answer), Said::from(reply))
     }
 }

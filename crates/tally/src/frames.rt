@@ -186,7 +186,10 @@ impl From<Call> for Lent {
     }
 }
 
-// For the log, where a call's first number and the lent words share one: in fixed memory 312,000 numbers hold 52,000 calls so.
+// How many calls the log of the soak holds.
+pub const MOST: u64 = 52000;
+
+// For the log, where a call's first number and the lent words share one: a call takes six numbers so.
 impl Lent {
     ghost use Rattle.tally.specs.Log.{lent_of};
     ghost use Rattle.tally.specs.declared.frames.TheConstants.{WHOLE};
