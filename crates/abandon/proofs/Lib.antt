@@ -1,1 +1,1 @@
-mod ByPhase
+pub mod ByPhase

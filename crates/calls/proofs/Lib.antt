@@ -1,1 +1,1 @@
-mod ByNumber
+pub mod ByNumber

@@ -1,1 +1,1 @@
-mod AtNumbers
+pub mod AtNumbers

@@ -164,7 +164,8 @@ pub fn kept_at_line_is_damaged(words: &[u32], w: usize, line: u8) -> bool
     kept_is_damaged(words, w, line) | ((line == 6) & (words[COUNTER_LIMIT] <= seen))
 }
 
-// A running record, at the table's entry for its phase. In its caller's own code for the same reason.
+// A running record, at the table's entry for its phase. In its caller's own code for the same reason. What it keeps is asked with branches, and not by
+// kept_is_damaged, which is step's. Lines 0, 5 and 6 keep nothing and go first: in a catalogue of no item they alone can be next, and no node word is in range.
 #[inline(always)]
 pub fn running_is_damaged(words: &[u32], w: usize, row: PhaseRow) -> bool
     requires { HasRecord w words.now }
@@ -173,7 +174,16 @@ pub fn running_is_damaged(words: &[u32], w: usize, row: PhaseRow) -> bool
     if arguments_are_damaged(words, w, row) {
         return true;
     }
-    kept_is_damaged(words, w, row.line)
+    if row.line < 20 {
+        return false;
+    }
+    if kept_node_is_damaged(words, w, row.line) {
+        return true;
+    }
+    if kept_new_node_is_damaged(words, w, row.line) {
+        return true;
+    }
+    kept_time_is_damaged(words, w, row.line)
 }
 
 // The step count and the arguments, as step asks them: with branches, and called from nowhere else, so that they stand in step's own code.
