@@ -32,9 +32,12 @@ pub fn value_of(memory: &[usize], item: usize, version: usize) -> usize {
     get(values(memory, item), version)
 }
 
-// The value of the item's newest published version, stamped or not; None where the item is not there.
-pub fn present_value(memory: &[usize], item: usize) -> Option<usize> {
-    (item < get(memory, ITEMS)).then(|| value_of(memory, item, newest(memory, item)))
+// The value of the item's newest published version, stamped or not; 0 where the item is not there.
+pub fn present_value(memory: &[usize], item: usize) -> usize {
+    if get(memory, ITEMS) <= item {
+        return 0;
+    }
+    value_of(memory, item, newest(memory, item))
 }
 
 // What line 20 asks.

@@ -3,7 +3,7 @@ ghost use Rattle.std.specs.Prelude.{◌≡◌, OnErr};
 
 use crate::history;
 use crate::memory::{
-    ITEMS, LARGEST_COUNTER, MOST_ITEMS, NEEDED, NODES, PROJECTS, ROW, TAKEN, WORKERS, get, put,
+    ITEMS, LARGEST_COUNTER, MOST_ITEMS, NEEDED, NODES, PROJECTS, STEPS, TAKEN, WORKERS, get, put,
 };
 use crate::replies::Refusal;
 
@@ -51,10 +51,10 @@ pub fn make(memory: &mut [usize], lent: usize, sizes: Sizes) -> Result<(), Refus
     Ok(())
 }
 
-// A made catalogue: every worker idle, the counter 0, no item, no node taken. The single numbers and the workers' columns
-// stand before the items'.
+// A made catalogue: every worker idle, the counter 0, no item, no node taken. The single numbers stand first, and then OPERATION,
+// the first column of the workers'; an idle worker's other columns are not read.
 fn clear(memory: &mut [usize]) {
-    let end = memory.len().min(ROW);
+    let end = memory.len().min(STEPS);
     memory[..end].fill(0);
 }
 

@@ -80,22 +80,32 @@ impl Record<'_> {
         Some(value_at(self.memory, item, handle))
     }
 
-    // "one step if born after the handle, otherwise the steps of a readSnapshot. One closing step answers". Whether it is born
-    // after is asked once an item, at the fetch of its head.
+    // "one step if born after the handle, otherwise the steps of a readSnapshot. One closing step answers". Both are asked at the
+    // step that fetches a head, once an item.
     fn total(&mut self) -> Option<usize> {
-        let (item, noted) = (self.field(ITEM), self.field(NOTED));
-        let handle = self.field(HANDLE);
-        if noted <= item {
-            let project = self.field(PROJECT);
-            return Some(total_at(self.memory, noted, project, handle));
+        if self.steps == self.field(FETCH) {
+            let (item, noted) = (self.field(ITEM), self.field(NOTED));
+            let handle = self.field(HANDLE);
+            if noted <= item {
+                let project = self.field(PROJECT);
+                return Some(total_at(self.memory, noted, project, handle));
+            }
+            if is_born_after(self.memory, item, handle) {
+                self.go_to_next_item();
+                return None;
+            }
         }
-        let is_fetch = self.steps == self.field(FETCH);
-        let is_passed_over = is_fetch && is_born_after(self.memory, item, handle);
-        if is_passed_over || self.test_stamps().is_some() {
-            self.set_field(ITEM, item.wrapping_add(1));
-            self.set_field(FETCH, self.steps.wrapping_add(1));
+        if self.test_stamps().is_some() {
+            self.go_to_next_item();
         }
         None
+    }
+
+    // The total's next item begins at the next step.
+    fn go_to_next_item(&mut self) {
+        let item = self.field(ITEM);
+        self.set_field(ITEM, item.wrapping_add(1));
+        self.set_field(FETCH, self.steps.wrapping_add(1));
     }
 
     // "32, H, then line 34 once per node tested": k tests move to the older version, and the one after them is the last. k

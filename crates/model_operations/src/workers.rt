@@ -74,27 +74,27 @@ pub(crate) struct Record<'a> {
 }
 
 impl Record<'_> {
-    pub fn field(&self, column: usize) -> usize {
+    pub(crate) fn field(&self, column: usize) -> usize {
         field(self.memory, column, self.worker)
     }
 
-    pub fn set_field(&mut self, column: usize, to: usize) {
+    pub(crate) fn set_field(&mut self, column: usize, to: usize) {
         set_field(self.memory, column, self.worker, to);
     }
 
-    pub fn is_set(&self, column: usize) -> bool {
+    pub(crate) fn is_set(&self, column: usize) -> bool {
         is_set(self.memory, column, self.worker)
     }
 
-    pub fn set_flag(&mut self, column: usize, flag: bool) {
+    pub(crate) fn set_flag(&mut self, column: usize, flag: bool) {
         self.set_field(column, usize::from(flag));
     }
 
-    pub fn outcome(&self) -> Outcome {
+    pub(crate) fn outcome(&self) -> Outcome {
         Outcome::of(self.field(OUTCOME))
     }
 
-    pub fn set_outcome(&mut self, outcome: Outcome) {
+    pub(crate) fn set_outcome(&mut self, outcome: Outcome) {
         self.set_field(OUTCOME, outcome.number());
     }
 }

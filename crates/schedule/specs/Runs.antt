@@ -38,14 +38,14 @@ OfWrite Unwritten = Unit {0}
 OfWrite NobodyReads = Unit {0}
 OfWrite TurnsSpent = ⊥
 
--- What holds unless a write failed, which may have done a part.
+-- What holds unless the answer is that a write failed, which may have done a part.
 abbrev pub IfWritten : {T : Type 0} → Result T Failure → Type 0 → Type 0
 IfWritten (Ok u) claim = claim
 IfWritten (Err failure) claim = OfWrite failure ⊎ claim
 
 -- A run that answered so, from an input that had r₀ left and has r₁, to an output that held w₀ and holds w₁: what its turns read is what the input lost;
 -- where the last of them found the end of the input, as it did where the run answers Ok, the input is at its end; where the last read failed, the run
--- answers Unread; and unless a write failed, what its turns handed to write is what the output gained.
+-- answers Unread; and unless it answers that a write failed, what its turns handed to write is what the output gained.
 pub record RanOn {T : Type 0} (r₀ r₁ w₀ w₁ : Option (List ℕ)) (ws₀ : List ℕ) (answered : Result T Failure) (ws' : List ℕ) : Type 0 where
   pub run : Ran ws₀ (could_go_on answered) ws'
   pub reads_on : Consumes r₀ r₁ (all_read (run.last ∷ run.before))
@@ -81,8 +81,8 @@ TurnAnswers (pos n) (Err failure) = OfWrite failure
 TurnAnswers (negsuc n) (Ok goes_on) = ⊥
 TurnAnswers (negsuc n) (Err failure) = (n ≡ 0) × (failure ≡ Unread)
 
--- What a read comes to that answered `got`, where p are the bytes read, after the k that are kept: so many answers are handed to write, and unless a
--- write failed, the output gained them. Where the read failed there are none.
+-- What a read comes to that answered `got`, where p are the bytes read, after the k that are kept: so many answers are handed to write, and unless it
+-- answers that a write failed, the output gained them. Where the read failed there are none.
 pub record AnswersRead (w₀ w₁ : Option (List ℕ)) (got : ℤ) (k p ws out : List ℕ) (answered : Result Bool Failure) (held : ℕ)
     (bytes' ws' out' : List ℕ) : Type 0 where
   pub written : ℕ
@@ -90,8 +90,8 @@ pub record AnswersRead (w₀ w₁ : Option (List ℕ)) (got : ℤ) (k p ws out :
   pub answers : TurnAnswers got answered
   pub appends : IfWritten answered (Appends w₀ w₁ (take written out'))
 
--- A turn: what it read is what the input lost; where it found the end of the input, the input is at its end; and unless a write failed, what it handed to
--- write is what the output gained.
+-- A turn: what it read is what the input lost; where it found the end of the input, the input is at its end; and unless it answers that a write failed,
+-- what it handed to write is what the output gained. The output's buffer has room for all answers, as the next turn asks.
 pub record TakesTurn (r₀ r₁ w₀ w₁ : Option (List ℕ)) (k ws out : List ℕ) (answered : Result Bool Failure) (held : ℕ)
     (bytes' ws' out' : List ℕ) : Type 0 where
   pub written : ℕ

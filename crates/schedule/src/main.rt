@@ -141,7 +141,9 @@ impl Buffers {
     }
 
     // What a read that answered `got` comes to, and whether the run goes on: the whole lines are answered, at the end of the input the last line. Where it
-    // failed nothing more is answered, since what is held may be a part of a line.
+    // failed nothing more is answered, since what is held may be a part of a line. In run's own code, as take_turn: as calls they made schedule take 1.05 of
+    // its time.
+    #[inline(always)]
     fn after_read<W: Write>(
         &mut self,
         got: Result<usize, Error>,
@@ -166,6 +168,7 @@ impl Buffers {
     }
 
     // One read after what is held, and what it comes to.
+    #[inline(always)]
     fn take_turn<R: Read, W: Write>(
         &mut self,
         input: &mut R,

@@ -8,7 +8,7 @@ pub const CALLS: u64 = 43270;
 
 // Worker 1 starts a change of an item, from project 0 to 1 or back.
 fn change_of(memory: &[usize], item: u32) -> Call {
-    let is_changed = present_value(memory, item as usize).unwrap_or(0) != 0;
+    let is_changed = present_value(memory, item as usize) != 0;
     let old = u32::from(is_changed);
     let new = u32::from(!is_changed);
     Call::Start {

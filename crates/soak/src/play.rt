@@ -204,7 +204,7 @@ impl Bench {
         if once_in(&mut self.tally, 4) {
             return self.below(PROJECTS, slack);
         }
-        narrow(present_value(&self.memory, item as usize).unwrap_or(0))
+        narrow(present_value(&self.memory, item as usize))
     }
 
     // One of the five operations.
